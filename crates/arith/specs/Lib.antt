@@ -1,0 +1,2 @@
+-- Bounds of whole numbers, as contracts and statements cite them. The laws are in proofs/.
+pub mod Bounds

@@ -1,0 +1,2 @@
+-- The refusals' numbers and what comes back to a caller.
+pub mod Numbers
