@@ -5,10 +5,10 @@ use mathlib.Core.Bool.{Bool, true, false, _&&_}
 use Prim.Native.Nat.{ℕ, _-_, _<_, _^_}
 use lib.Dec.{T, ltb, ltb→lt}
 use lib.IntN.{ℤ, pos, negsuc, natAbs}
-use lib.Signed.{nonNeg, leZ, ltZ, _≤ℤ_, _<ℤ_, leZ-yes, yes-nonNeg, pos-natAbs}
+use lib.Signed.{mag, nonNeg, leZ, ltZ, _≤ℤ_, _<ℤ_, leZ-yes, yes-nonNeg, pos-natAbs}
 use lib.Pow.{pow-pos, le-ones}
 use mir.Syntax.{Width}
-use mir.Val.{SFits, Fits, bits, toZ, ofZ}
+use mir.Val.{SFits, Fits, bits, hbits, toZ, ofZ}
 use mir.Facts.{toZ-ofZ, and-yes}
 use Rattle.arith.proofs.Parts.{linear}
 use Rattle.arith.proofs.Order.{≤ℤ-trans, lt-true, lt-false, le-true, le-false}
@@ -58,6 +58,10 @@ is-lt r t h = rw (plain r t) h
 -- a parameter as the code reads it
 abbrev pub param : {w : Width} {z : ℤ} → SFits w z → Range (toZ w (ofZ w z))
 param f = via (toZ-ofZ f) (any f)
+
+-- a call's result as the code reads it, by the bare bound that a need has of it: `back w64 (c .f .result) (c .f .ok)`
+pub back : (w : Width) (z : ℤ) → mag z < 2 ^ hbits w → toZ w (ofZ w z) ≡ z
+back w z h = toZ-ofZ {w = w} (record { sfits = h })
 
 -- an unsigned number, cast to a signed type that is wider
 abbrev pub unsigned : (w : Width) {u : Width} {n : ℕ} → Fits u n → Range (toZ w n)

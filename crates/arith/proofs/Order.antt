@@ -5,11 +5,12 @@ use mathlib.Core.Logic.{_⊎_, inl, inr, ⊎-elim}
 use mathlib.Mathlib.Data.Bool.Basic.{eq-false-of-not-eq-true}
 use Prim.Native.Nat.{ℕ, zero, suc, _+_, _*_, _≤_, min}
 use native.Mathlib.Omega.{arith}
+use borrow.Author.Tests.{leb-true, le-leb}
 use lib.Dec.{T-not}
 use lib.IntN.{ℤ, pos, negsuc, negℤ, natAbs, _+ℤ_, _-ℤ_, _*ℤ_}
 use lib.Signed.{leZ, ltZ, _≤ℤ_, _<ℤ_, ltZ-no, leZ-yes, ltZ-yes, clashℤ}
 use denote.Floats.{is-true}
-use Rattle.arith.specs.Bounds.{Size}
+use Rattle.arith.specs.Bounds.{Size, sizeUpTo}
 use Rattle.arith.proofs.Parts.{p⁺, p⁻, add-parts, sub-parts, neg-parts, linear}
 
 -- ---- a partial order; < is its strict part (`lib.Signed` has `≤ℤ-refl` and `<ℤ-≤ℤ-trans`)
@@ -100,3 +101,10 @@ size-abs {z} {m} h = omega (linear, h .low, h .high, abs-parts z, neg-parts (pos
 
 pub abs-size : {z : ℤ} {m : ℕ} → natAbs z ≤ m → Size (pos m) z
 abs-size {z} {m} h = record { low = omega (linear, abs-parts z, neg-parts (pos m)); high = omega (linear, abs-parts z) }
+
+-- the test of it as a fact, and back
+pub size-true : {z : ℤ} {m : ℕ} → sizeUpTo m z ≡ true → Size (pos m) z
+size-true {z} {m} e = abs-size (leb-true (natAbs z) m e)
+
+pub true-size : {z : ℤ} {m : ℕ} → Size (pos m) z → sizeUpTo m z ≡ true
+true-size {z} {m} h = le-leb (natAbs z) m (size-abs h)

@@ -3,24 +3,24 @@ use mathlib.Core.Path.{_≡_, refl, sym}
 use mathlib.Core.Bool.{true, false, cond}
 use mathlib.Core.List.{[], _∷_, replicate}
 use mathlib.Core.Logic.{⊎-elim}
-use Prim.Native.Nat.{ℕ, _*_, _≤_, _<_}
+use Prim.Native.Nat.{ℕ, _*_, _^_, _≤_, _<_}
 use lib.Dec.{T, lit<}
 use lib.IntN.{ℤ, pos, negsuc, negℤ, natAbs, _+ℤ_, _-ℤ_, _*ℤ_}
 use lib.ListN.{getD}
-use lib.Signed.{ltZ, nonNeg, _≤ℤ_, _<ℤ_, quotZ, remZ, ltZ-yes}
+use lib.Signed.{mag, ltZ, nonNeg, _≤ℤ_, _<ℤ_, quotZ, remZ, ltZ-yes}
 use mir.Syntax.{w32, w64}
 use mir.Val.{Fits, SFits, toZ, ofZ}
-use Rattle.arith.specs.Bounds.{Within}
+use Rattle.arith.specs.Bounds.{Within, sizeUpTo}
 use Rattle.arith.proofs.Choose.{choose}
 use Rattle.arith.proofs.Laws.{*ℤ-distribˡ, *ℤ-distribʳ, *ℤ-assoc}
 use Rattle.arith.proofs.Quote.{ring!, quote, quote-nat, q-pos}
 use Rattle.arith.proofs.Parts.{linear, add-parts, sub-parts, neg-parts, mul-parts}
-use Rattle.arith.proofs.Order.{≤ℤ-total, lt-true, lt-false, true-lt, abs-*, abs-size, size-abs}
+use Rattle.arith.proofs.Order.{≤ℤ-total, lt-true, lt-false, true-lt, abs-*, abs-size, size-abs, size-true}
 use Rattle.arith.proofs.Cert.{_⊞_, _⊠_, _·_, sq, num, gap, gap<, nonneg-by, le-by, lt-by, le-by*, eq-by, _⊹_, _⊛_, *ℤ-monoˡ, *ℤ-cancelˡ-≤}
 use Rattle.arith.proofs.Quot.{quot-neg, quot-*ˡ, quot-nonneg, quot-nonpos, quot-mono, quot-≤, quot-unique, quot-rem}
 use Rattle.arith.proofs.Size.{Size, size-+, size-neg, size-*, size-by, size-quot}
 use Rattle.arith.proofs.Sweep.{sweep}
-use Rattle.arith.proofs.Fits.{ranges, shapes, fits, plain, div-fits, inside-of, le-is, within, any, nat-bits, unsigned, lit, param, r-add, r-neg, r-mul, r-quot, lt-yes, lt-no, guarded, eq-yes, cast-fits, cast-is}
+use Rattle.arith.proofs.Fits.{ranges, shapes, fits, plain, div-fits, inside-of, le-is, within, any, nat-bits, unsigned, lit, param, back, r-add, r-neg, r-mul, r-quot, lt-yes, lt-no, guarded, eq-yes, cast-fits, cast-is}
 
 -- ---- equations
 
@@ -122,6 +122,9 @@ test-as-fact a b e = lt-true e
 fact-as-test : (a b : ℤ) → a <ℤ b → ltZ a b ≡ true
 fact-as-test a b h = true-lt h
 
+size-from-test : (z : ℤ) → sizeUpTo 7 z ≡ true → Size (pos 7) z
+size-from-test z e = size-true {z = z} e
+
 chosen-by-test : (a : ℤ) → pos 0 ≤ℤ cond (ltZ a (pos 0)) (negℤ a) a
 chosen-by-test a = choose (λ z. pos 0 ≤ℤ z) (ltZ a (pos 0)) (negℤ a) a
     (λ e. let h = lt-true {a = a} {b = pos 0} e in omega (linear, neg-parts a)) (λ e. lt-false e)
@@ -159,6 +162,9 @@ value-at-least a h = le-is (search ranges depth 9) tt (omega (linear, h .low, ad
 
 result-of-call : (r x : ℤ) → r ≡ quotZ (x *ℤ x) (pos 64) → Size (pos 1000) x → SFits w32 (r -ℤ x)
 result-of-call r x e h = fits (search ranges depth 9) tt
+
+result-read-back : (r : ℤ) → mag r < 2 ^ 63 → toZ w64 (ofZ w64 r) ≡ r
+result-read-back r h = back w64 r h
 
 unsigned-as-signed : (n : ℕ) → Fits w32 n → SFits w64 (toZ w64 n -ℤ pos 1000)
 unsigned-as-signed n f = let r = unsigned w64 f in fits (search ranges depth 9) tt

@@ -1,16 +1,7 @@
 -- Two answers never share a number and a value; what a test says of an answer. Assumes nothing.
 use mathlib.Core.Path.{_≡_, ap, sym}
 use mathlib.Core.Bool.{Bool, true, false}
-use Prim.Native.Nat.{ℕ, _^_, _<_}
-use borrow.Author.Needs.{sfits-of}
-use borrow.Author.Tests.{leb-true}
-use lib.IntN.{ℤ, pos, natAbs}
-use lib.Signed.{mag}
-use mir.Syntax.{w64}
-use mir.Val.{toZ, ofZ}
-use mir.Facts.{toZ-ofZ}
-use Rattle.arith.specs.Bounds.{Size, sizeUpTo}
-use Rattle.arith.proofs.Order.{abs-size}
+use lib.IntN.{ℤ}
 use Rattle.refusal.specs.declared.Refusal.the-variants.{OutOfRange}
 use Rattle.refusal.specs.Numbers.{Reply}
 use Rattle.refusal.proofs.Distinct.{distinct-numbers, no-number-zero}
@@ -24,14 +15,7 @@ distinct-replies (Value v) (Refused r) e = absurd (no-number-zero r (sym (ap (λ
 distinct-replies (Refused r) (Value w) e = absurd (no-number-zero r (ap (λ (x : Reply). x .number) e))
 distinct-replies (Refused r) (Refused s) e = ap Refused (distinct-numbers r s (ap (λ (x : Reply). x .number) e))
 
--- ---- what the tests and the calls of a public function say
-
-pub in-size : {n : ℕ} {z : ℤ} → sizeUpTo n z ≡ true → Size (pos n) z
-in-size {n} {z} h = abs-size (leb-true (natAbs z) n h)
-
--- a call's result, read back from its bits
-pub back : (z : ℤ) → mag z < 2 ^ 63 → toZ w64 (ofZ w64 z) ≡ z
-back z h = toZ-ofZ (sfits-of {w = w64} h)
+-- ---- what a test says of an answer
 
 pub answered : {t : Bool} {r v : ℤ} → t ≡ true → r ≡ v → replyOf (Value r) ≡ offered t v
 unfolding offered

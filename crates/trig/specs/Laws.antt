@@ -4,7 +4,7 @@ use Prim.Native.Nat.{ℕ, _+_, _*_, _/_, _^_, _≤_, _<_}
 use lib.IntN.{ℤ, pos, negℤ, natAbs, _+ℤ_, _-ℤ_, _*ℤ_}
 use Rattle.arith.specs.Bounds.{Size}
 use Rattle.trig.specs.declared.Answer.{Answer}
-use Rattle.trig.specs.Trig.{ONE, angleFactor, angleOf, sineOf, cosineOf, Root, rootBelow, rootOf, replyOf}
+use Rattle.trig.specs.Trig.{ONE, angleFactor, angleOf, sineOf, cosineOf, Root, rootBelow, rootOf, sineLimit, rootLimit, replyOf}
 
 -- two answers never share a number and a value, so that the contracts fix the answer (Answers)
 abbrev pub DistinctReplies : Type 0
@@ -29,10 +29,10 @@ abbrev pub AngleSize : Type 0
 AngleSize = (m a : ℤ) → Size m a → Size (angleOf m) (angleOf a)
 
 abbrev pub SineSize : Type 0
-SineSize = (t : ℤ) → Size (pos 1610612736) t → Size (pos (natAbs t)) (sineOf t)
+SineSize = (t : ℤ) → Size (pos sineLimit) t → Size (pos (natAbs t)) (sineOf t)
 
 abbrev pub CosineSize : Type 0
-CosineSize = (t : ℤ) → Size (pos 1610612736) t → Size ONE (cosineOf t)
+CosineSize = (t : ℤ) → Size (pos sineLimit) t → Size ONE (cosineOf t)
 
 -- sine and cosine lie near the circle: with S = sine(t) and C = cosine(t), |S² + C² - ONE²| ≤ 9.8 ONE for |t| up to angle(60,000,000) (Circle)
 abbrev pub NearCircle : Type 0
@@ -41,10 +41,10 @@ NearCircle = (t : ℤ) → Size (angleOf (pos 60000000)) t →
 
 -- the root from below (Roots)
 abbrev pub IsRootBelow : Type 0
-IsRootBelow = (q : ℕ) → q ≤ 2 ^ 60 →
+IsRootBelow = (q : ℕ) → q ≤ rootLimit →
     (rootBelow q * rootBelow q ≤ q) × (q < (rootBelow q + 1) * (rootBelow q + 1))
 
 -- root(q) is the whole number between its two squares, and there is no other (Roots)
 abbrev pub IsRoot : Type 0
-IsRoot = (q : ℕ) → 1 ≤ q → q ≤ 2 ^ 60 →
+IsRoot = (q : ℕ) → 1 ≤ q → q ≤ rootLimit →
     Root (pos q) (pos (rootOf q)) × ((r : ℤ) → Root (pos q) r → r ≡ pos (rootOf q))

@@ -73,19 +73,28 @@ unfoldable pub offered : Bool → ℤ → Reply
 offered inRange v = cond inRange (accepted (v ∷ [])) (refused 1 OutOfRange)
 
 -- angle takes a of size up to 360,000,000
+abbrev pub angleLimit : ℕ
+angleLimit = 360000000
+
 abbrev pub angleReply : ℤ → Reply
-angleReply a = offered (sizeUpTo 360000000 a) (angleOf a)
+angleReply a = offered (sizeUpTo angleLimit a) (angleOf a)
 
 -- sine and cosine take t of size up to 1,610,612,736
+abbrev pub sineLimit : ℕ
+sineLimit = 1610612736
+
 abbrev pub sineReply : ℤ → Reply
-sineReply t = offered (sizeUpTo 1610612736 t) (sineOf t)
+sineReply t = offered (sizeUpTo sineLimit t) (sineOf t)
 
 abbrev pub cosineReply : ℤ → Reply
-cosineReply t = offered (sizeUpTo 1610612736 t) (cosineOf t)
+cosineReply t = offered (sizeUpTo sineLimit t) (cosineOf t)
 
--- root takes q from 1 to 2^60, where natAbs q is q
+-- root takes q from 1 to 2^60 (natAbs q is q there)
+abbrev pub rootLimit : ℕ
+rootLimit = 2 ^ 60
+
 abbrev pub rootReply : ℤ → Reply
-rootReply q = offered (leZ (pos 1) q && leZ q (pos (2 ^ 60))) (pos (rootOf (natAbs q)))
+rootReply q = offered (leZ (pos 1) q && leZ q (pos rootLimit)) (pos (rootOf (natAbs q)))
 
 -- the number and the value that an answer stands for
 abbrev pub replyOf : Answer → Reply

@@ -5,10 +5,10 @@
 // offered to callers. The function without that ending checks, and refuses.
 ghost use mathlib.Core.Logic.{_⊎_};
 ghost use mathlib.Core.Path.{_≡_};
-ghost use Prim.Native.Nat.{_+_, _*_, _^_, _≤_};
+ghost use Prim.Native.Nat.{_+_, _*_, _≤_};
 ghost use lib.IntN.{pos, natAbs};
 ghost use Rattle.arith.specs.Bounds.{Size, Within, sizeUpTo};
-ghost use Rattle.trig.specs.Trig.{angleOf, angleReply, sineRow, cosineRow, squareOf, seriesOf, sineOf, sineReply, cosineOf, cosineReply, rootBelow, rootOf, rootReply, replyOf};
+ghost use Rattle.trig.specs.Trig.{angleOf, angleReply, sineRow, cosineRow, squareOf, seriesOf, sineOf, sineReply, cosineOf, cosineReply, rootBelow, rootOf, rootReply, angleLimit, sineLimit, rootLimit, replyOf};
 use refusal::Refusal;
 
 // 2^30, which stands for 1.
@@ -55,7 +55,7 @@ pub fn angle(a: i64) -> Answer
 }
 
 pub fn angle_unchecked(a: i64) -> i64
-    requires { ⌜ Size (pos 360000000) a ⌝ }
+    requires { ⌜ Size (pos angleLimit) a ⌝ }
     ensures { λ r. ⌜ r ≡ angleOf a ⌝ }
 {
     a * ANGLE_FACTOR / ONE
@@ -73,7 +73,7 @@ pub fn sine(t: i64) -> Answer
 }
 
 pub fn sine_unchecked(t: i64) -> i64
-    requires { ⌜ Size (pos 1610612736) t ⌝ }
+    requires { ⌜ Size (pos sineLimit) t ⌝ }
     ensures { λ r. ⌜ r ≡ sineOf t ⌝ }
 {
     let row = FACTORS[0];
@@ -92,7 +92,7 @@ pub fn cosine(t: i64) -> Answer
 }
 
 pub fn cosine_unchecked(t: i64) -> i64
-    requires { ⌜ Size (pos 1610612736) t ⌝ }
+    requires { ⌜ Size (pos sineLimit) t ⌝ }
     ensures { λ r. ⌜ r ≡ cosineOf t ⌝ }
 {
     let row = FACTORS[1];
@@ -100,7 +100,7 @@ pub fn cosine_unchecked(t: i64) -> i64
 }
 
 fn square(t: i64) -> i64
-    requires { ⌜ Size (pos 1610612736) t ⌝ }
+    requires { ⌜ Size (pos sineLimit) t ⌝ }
     ensures { λ r. ⌜ r ≡ squareOf t ⌝ }
 {
     t * t / ONE
@@ -133,7 +133,7 @@ pub fn root(q: i64) -> Answer
 }
 
 pub fn root_unchecked(q: i64) -> i64
-    requires { ⌜ Within (pos 1) (pos (2 ^ 60)) q ⌝ }
+    requires { ⌜ Within (pos 1) (pos rootLimit) q ⌝ }
     ensures { λ r. ⌜ r ≡ pos (rootOf (natAbs q)) ⌝ }
 {
     let below = root_below(q as u64);
@@ -152,7 +152,7 @@ struct RootBelow {
 
 // A bit at a time, from 2^30 down.
 fn root_below(q: u64) -> RootBelow
-    requires { ⌜ q ≤ 2 ^ 60 ⌝ }
+    requires { ⌜ q ≤ rootLimit ⌝ }
     ensures { λ r. ⌜ r .root ≡ rootBelow q ⌝ }
     ensures { λ r. ⌜ rootBelow q * rootBelow q + r .remainder ≡ q ⌝ }
 {

@@ -1,8 +1,11 @@
 -- `trig::angle` meets its contract. Assumes nothing.
 use mathlib.Core.Path.{sym, _∙_}
 use borrow.Author.Needs.{needs}
+use mir.Syntax.{w64}
 use mir.Facts.{toZ-ofZ}
-use Rattle.trig.proofs.Answers.{in-size, answered, out-of-range, back}
+use Rattle.arith.proofs.Order.{size-true}
+use Rattle.arith.proofs.Fits.{back}
+use Rattle.trig.proofs.Answers.{answered, out-of-range}
 use Rattle.trig.proofs.angle.Statement.{statement}
 use Rattle.trig.proofs.angle.Tie as tie
 
@@ -10,12 +13,12 @@ size-up-to-requires : tie.Need-size-up-to-requires
 size-up-to-requires c κs = search needs
 
 angle-unchecked-requires : tie.Need-angle-unchecked-requires
-angle-unchecked-requires c κs = in-size (sym (c .before .size-up-to .ensures) ∙ c .if1 .taken)
+angle-unchecked-requires c κs = size-true (sym (c .before .size-up-to .ensures) ∙ c .if1 .taken)
 
 returns : tie.Need-returns
 returns c =
     let a = toZ-ofZ (c .before .before .before .fits .a) in
-    answered (cc) (cc (back (c .angle-unchecked .result) (c .angle-unchecked .ok)))
+    answered (cc) (cc (back w64 (c .angle-unchecked .result) (c .angle-unchecked .ok)))
 
 returns-2 : tie.Need-returns-2
 returns-2 c = out-of-range _ (cc (toZ-ofZ (c .before .before .fits .a)))

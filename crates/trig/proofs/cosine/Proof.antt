@@ -1,8 +1,11 @@
 -- `trig::cosine` meets its contract. Assumes nothing.
 use mathlib.Core.Path.{sym, _∙_}
 use borrow.Author.Needs.{needs}
+use mir.Syntax.{w64}
 use mir.Facts.{toZ-ofZ}
-use Rattle.trig.proofs.Answers.{in-size, answered, out-of-range, back}
+use Rattle.arith.proofs.Order.{size-true}
+use Rattle.arith.proofs.Fits.{back}
+use Rattle.trig.proofs.Answers.{answered, out-of-range}
 use Rattle.trig.proofs.cosine.Statement.{statement}
 use Rattle.trig.proofs.cosine.Tie as tie
 
@@ -10,12 +13,12 @@ size-up-to-requires : tie.Need-size-up-to-requires
 size-up-to-requires c κs = search needs
 
 cosine-unchecked-requires : tie.Need-cosine-unchecked-requires
-cosine-unchecked-requires c κs = in-size (sym (c .before .size-up-to .ensures) ∙ c .if1 .taken)
+cosine-unchecked-requires c κs = size-true (sym (c .before .size-up-to .ensures) ∙ c .if1 .taken)
 
 returns : tie.Need-returns
 returns c =
     let t = toZ-ofZ (c .before .before .before .fits .t) in
-    answered (cc) (cc (back (c .cosine-unchecked .result) (c .cosine-unchecked .ok)))
+    answered (cc) (cc (back w64 (c .cosine-unchecked .result) (c .cosine-unchecked .ok)))
 
 returns-2 : tie.Need-returns-2
 returns-2 c = out-of-range _ (cc (toZ-ofZ (c .before .before .fits .t)))

@@ -1,9 +1,11 @@
 -- `trig::root` meets its contract. Assumes nothing.
 use mathlib.Core.Logic.{⊎-elim}
 use mathlib.Core.Path.{_∙_}
+use mir.Syntax.{w64}
 use mir.Facts.{toZ-ofZ}
+use Rattle.arith.proofs.Fits.{back}
 use Rattle.arith.proofs.Order.{le-true}
-use Rattle.trig.proofs.Answers.{answered, out-of-range, back}
+use Rattle.trig.proofs.Answers.{answered, out-of-range}
 use Rattle.trig.proofs.root.Statement.{statement}
 use Rattle.trig.proofs.root.Tie as tie
 
@@ -14,7 +16,7 @@ returns : tie.Need-returns
 returns c =
     let b = c .before in
     let q = toZ-ofZ (b .before .before .fits .q) in
-    answered (rw (rw q at (b .before .if1 .taken), rw q at (b .if2 .taken))) (back (c .root-unchecked .result) (c .root-unchecked .ok) ∙ rw q at (c .root-unchecked .ensures))
+    answered (rw (rw q at (b .before .if1 .taken), rw q at (b .if2 .taken))) (back w64 (c .root-unchecked .result) (c .root-unchecked .ok) ∙ rw q at (c .root-unchecked .ensures))
 
 returns-2 : tie.Need-returns-2
 returns-2 c =

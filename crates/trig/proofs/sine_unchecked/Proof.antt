@@ -2,10 +2,10 @@
 use mathlib.Core.Path.{_≡_, refl}
 use mathlib.Core.Logic.{inl}
 use borrow.Author.Needs.{needs}
+use mir.Syntax.{w64}
 use mir.Facts.{toZ-ofZ}
-use Rattle.arith.proofs.Fits.{Range, shapes, fits, div-fits, plain, within, via}
+use Rattle.arith.proofs.Fits.{back, Range, shapes, fits, div-fits, plain, within, via}
 use Rattle.trig.specs.Trig.{sineRow, squareOf, seriesOf, sineOf}
-use Rattle.trig.proofs.Answers.{back}
 use Rattle.trig.proofs.Sizes.{square-size, series-size}
 use Rattle.trig.proofs.sine_unchecked.Statement.{statement}
 use Rattle.trig.proofs.sine_unchecked.Tie as tie
@@ -21,10 +21,10 @@ squared c = rw (toZ-ofZ (c .before .before .fits .t)) at (c .square .ensures)
 
 series-requires : tie.Need-series-requires
 series-requires c κs =
-    (inl refl, rw (back (c .square .result) (c .square .ok), squared c) (square-size (c .before .before .args .t) (c .before .before .pre)))
+    (inl refl, rw (back w64 (c .square .result) (c .square .ok), squared c) (square-size (c .before .before .args .t) (c .before .before .pre)))
 
 summed : (c : tie.After-series) → c .series .result ≡ seriesOf sineRow (squareOf (c .before .before .before .args .t))
-summed c = rw (back (c .before .square .result) (c .before .square .ok), squared (c .before)) at (c .series .ensures)
+summed c = rw (back w64 (c .before .square .result) (c .before .square .ok), squared (c .before)) at (c .series .ensures)
 
 -- the row's value
 abbrev p-range : (c : tie.After-series) → Range (c .series .result)

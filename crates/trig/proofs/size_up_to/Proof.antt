@@ -3,14 +3,14 @@ use mathlib.Core.Path.{_≡_, refl, sym, _∙_}
 use mathlib.Core.Bool.{Bool, true, false}
 use Prim.Native.Nat.{ℕ}
 use borrow.Author.Needs.{needs}
-use borrow.Author.Tests.{le-leb, lt-leb}
+use borrow.Author.Tests.{lt-leb}
 use lib.IntN.{ℤ, pos, natAbs, _-ℤ_}
 use lib.Signed.{leZ, _≤ℤ_, _<ℤ_}
 use mir.Syntax.{w64}
 use mir.Val.{toZ, ofZ}
 use Rattle.arith.specs.Bounds.{sizeUpTo}
-use Rattle.arith.proofs.Parts.{linear, sub-parts}
-use Rattle.arith.proofs.Order.{abs-parts, le-true, le-false}
+use Rattle.arith.proofs.Parts.{linear, sub-parts, neg-parts}
+use Rattle.arith.proofs.Order.{abs-parts, le-true, le-false, true-size}
 use Rattle.arith.proofs.Fits.{Range, fits, plain, lit, r-bits, r-add, r-neg, unsigned, param, le-yes, le-no}
 use Rattle.trig.proofs.size_up_to.Statement.{statement}
 use Rattle.trig.proofs.size_up_to.Tie as tie
@@ -20,7 +20,7 @@ above : (a : ℤ) (n : ℕ) → (pos 0 -ℤ pos n) ≤ℤ a → leZ a (pos n) �
 above a n h = go (leZ a (pos n)) refl
   where
     go : (t : Bool) → leZ a (pos n) ≡ t → leZ a (pos n) ≡ sizeUpTo n a
-    go true e = let k = le-true {a = a} {b = pos n} e in e ∙ sym (le-leb (natAbs a) n (omega (linear, abs-parts a, sub-parts (pos 0) (pos n))))
+    go true e = e ∙ sym (true-size {z = a} {m = n} (record { low = omega (linear, neg-parts (pos n), sub-parts (pos 0) (pos n)); high = le-true {a = a} {b = pos n} e }))
     go false e = let k = le-false {a = a} {b = pos n} e in e ∙ sym (lt-leb (natAbs a) n (omega (linear, abs-parts a)))
 
 below : (a : ℤ) (n : ℕ) → a <ℤ (pos 0 -ℤ pos n) → sizeUpTo n a ≡ false
