@@ -16,7 +16,7 @@ use Rattle.arith.proofs.Order.{≤ℤ-trans, size-abs, abs-size, abs-*}
 use Rattle.arith.proofs.Cert.{_⊞_, _⊠_, _·_, num, sq, gap, le-by, *ℤ-monoʳ}
 use Rattle.arith.proofs.Size.{size-*}
 use Rattle.arith.proofs.Quot.{quot-nonneg, quot-≤, quot-mono, quot-abs-≤}
-use Rattle.trig.specs.Trig.{ONE, angleOf, sineRow, cosineRow, squareOf, seriesOf, sineOf, cosineOf}
+use Rattle.trig.specs.Trig.{ONE, angleFactor, angleOf, sineRow, cosineRow, squareOf, seriesOf, sineOf, cosineOf, sineLimit}
 use Rattle.trig.specs.Laws.{AngleSize, SineSize, CosineSize}
 use Rattle.trig.proofs.Mirror.{angle-odd}
 
@@ -96,7 +96,7 @@ series-size l k z e h = drop-size z h l k (⊎-elim (λ i. rw i (omega arith)) (
 pub factor-at : (l : List ℕ) (k : ℕ) → IsRow l → k < length l → (2 ≤ getD l k 0) × (getD l k 0 ≤ 156)
 factor-at l k e h = each-at (λ f. (2 ≤ f) × (f ≤ 156)) l k (⊎-elim (λ i. rw i (omega arith)) (λ i. rw i (omega arith)) e) h
 
-pub square-size : (t : ℤ) → Size (pos 1610612736) t → IsSquare (squareOf t)
+pub square-size : (t : ℤ) → Size (pos sineLimit) t → IsSquare (squareOf t)
 unfolding squareOf
 square-size t h =
     let b : 0 < 1073741824 = lit< tt in
@@ -109,7 +109,7 @@ square-size t h =
 
 angle-mono : {a b : ℤ} → a ≤ℤ b → angleOf a ≤ℤ angleOf b
 unfolding angleOf
-angle-mono h = quot-mono 1073741824 (lit< tt) (*ℤ-monoʳ (pos 20122276272) (num 20122276272) h)
+angle-mono h = quot-mono 1073741824 (lit< tt) (*ℤ-monoʳ (pos angleFactor) (num angleFactor) h)
 
 pub angle-size : AngleSize
 angle-size m a h = record { low = rw (← (angle-odd m)) (angle-mono (h .low)); high = angle-mono (h .high) }

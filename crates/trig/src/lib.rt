@@ -1,8 +1,8 @@
 // Angle, sine, cosine and root in whole numbers (document 01, 'Angle, sine, cosine, root'). Radians, sines and cosines are in
 // ONEths: ONE stands for 1.
 //
-// A function whose name ends in _unchecked is for other crates of the engine, whose proofs show what it requires; it is not
-// offered to callers. The function without that ending checks, and refuses.
+// A function whose name ends in _unchecked is not offered to callers: it is for a number that is known to be in range, and the
+// proof of each function that calls it shows that. The function without that ending takes any number, checks, and refuses.
 ghost use mathlib.Core.Logic.{_⊎_};
 ghost use mathlib.Core.Path.{_≡_};
 ghost use Prim.Native.Nat.{_+_, _*_, _≤_};
@@ -54,6 +54,7 @@ pub fn angle(a: i64) -> Answer
     }
 }
 
+// The same of a number in range; not offered to callers.
 pub fn angle_unchecked(a: i64) -> i64
     requires { ⌜ Size (pos angleLimit) a ⌝ }
     ensures { λ r. ⌜ r ≡ angleOf a ⌝ }
@@ -72,6 +73,7 @@ pub fn sine(t: i64) -> Answer
     }
 }
 
+// The same of a number in range; not offered to callers.
 pub fn sine_unchecked(t: i64) -> i64
     requires { ⌜ Size (pos sineLimit) t ⌝ }
     ensures { λ r. ⌜ r ≡ sineOf t ⌝ }
@@ -91,6 +93,7 @@ pub fn cosine(t: i64) -> Answer
     }
 }
 
+// The same of a number in range; not offered to callers.
 pub fn cosine_unchecked(t: i64) -> i64
     requires { ⌜ Size (pos sineLimit) t ⌝ }
     ensures { λ r. ⌜ r ≡ cosineOf t ⌝ }
@@ -99,6 +102,7 @@ pub fn cosine_unchecked(t: i64) -> i64
     series(row, square(t))
 }
 
+// The square of t, in ONEths.
 fn square(t: i64) -> i64
     requires { ⌜ Size (pos sineLimit) t ⌝ }
     ensures { λ r. ⌜ r ≡ squareOf t ⌝ }
@@ -106,7 +110,7 @@ fn square(t: i64) -> i64
     t * t / ONE
 }
 
-// The evaluation that sine and cosine share, from the row's last factor to its first.
+// The evaluation that sine and cosine share, from the row's last factor to its first. z is a square: from 0 to 2.25 ONE.
 fn series(row: [u32; 6], z: i64) -> i64
     requires { ⌜ (row ≡ sineRow) ⊎ (row ≡ cosineRow) ⌝ }
     requires { ⌜ Within (pos 0) (pos 2415919104) z ⌝ }
@@ -132,6 +136,7 @@ pub fn root(q: i64) -> Answer
     }
 }
 
+// The same of a number in range; not offered to callers.
 pub fn root_unchecked(q: i64) -> i64
     requires { ⌜ Within (pos 1) (pos rootLimit) q ⌝ }
     ensures { λ r. ⌜ r ≡ pos (rootOf (natAbs q)) ⌝ }
