@@ -9,7 +9,7 @@ use lib.IntN.{ℤ, pos, negsuc, _+ℤ_, _-ℤ_, _*ℤ_, *ℤ-zero, +ℤ-invr}
 use lib.Signed.{_≤ℤ_, _<ℤ_, clashℤ}
 use Rattle.arith.proofs.Laws.{sub-eq, *ℤ-distribˡ-sub, *ℤ-distribʳ-sub}
 use Rattle.arith.proofs.Parts.{add-parts, sub-parts, linear}
-use Rattle.arith.proofs.Order.{ltZ-total}
+use Rattle.arith.proofs.Order.{<ℤ-total}
 
 -- ---- what is not negative
 
@@ -72,10 +72,10 @@ pub *ℤ-monoˡ-< : (k : ℤ) {a b : ℤ} → pos 0 <ℤ k → a <ℤ b → (k *
     omega (linear, sub-parts (k *ℤ b) (k *ℤ a))
 
 pub *ℤ-cancelˡ-≤ : (k : ℤ) {a b : ℤ} → pos 0 <ℤ k → (k *ℤ a) ≤ℤ (k *ℤ b) → a ≤ℤ b
-*ℤ-cancelˡ-≤ k {a} {b} hk h = ⊎-elim (λ l. clashℤ (*ℤ-monoˡ-< k hk l) h) (λ g. g) (ltZ-total b a)
+*ℤ-cancelˡ-≤ k {a} {b} hk h = ⊎-elim (λ l. clashℤ (*ℤ-monoˡ-< k hk l) h) (λ g. g) (<ℤ-total b a)
 
 pub *ℤ-cancelˡ-< : (k : ℤ) {a b : ℤ} → pos 0 ≤ℤ k → (k *ℤ a) <ℤ (k *ℤ b) → a <ℤ b
-*ℤ-cancelˡ-< k {a} {b} hk h = ⊎-elim (λ l. l) (λ g. clashℤ h (*ℤ-monoˡ k hk g)) (ltZ-total a b)
+*ℤ-cancelˡ-< k {a} {b} hk h = ⊎-elim (λ l. l) (λ g. clashℤ h (*ℤ-monoˡ k hk g)) (<ℤ-total a b)
 
 -- `le-by* 2 tt` and `lt-by* 2 tt`: the same of 2 a and 2 b, for a sum that is 2 b - 2 a (less 1); any numeral but 0 serves
 pub le-by* : (k : ℕ) {a b z : ℤ} → T (ltb 0 k) → pos 0 ≤ℤ z → z ≡ pos k *ℤ b -ℤ pos k *ℤ a → a ≤ℤ b

@@ -1,6 +1,6 @@
 -- What the range of a value closes: that it fits its type, that it is a plain number, its bounds, what a test says, a cast. Assumes nothing.
 -- `fits (search ranges depth 9) tt` answers the need of a sum, a difference, a product or a cast between signed types, `div-fits` that of a division, and `plain` that a result is what the contract says.
-use mathlib.Core.Path.{_≡_, sym, _∙_, ap}
+use mathlib.Core.Path.{_≡_, sym, _∙_, ap, subst}
 use mathlib.Core.Bool.{Bool, true, false, _&&_}
 use Prim.Native.Nat.{ℕ, _-_, _<_, _^_}
 use lib.Dec.{T, ltb, ltb→lt}
@@ -40,18 +40,9 @@ lies-inside {z} {v} {l} {h} (ends a b g) k t =
 pub inside-of : {z l h : ℤ} (r : Range z) → T (insideE l h (r .e)) → Within l h z
 inside-of r t = lies-inside (r .e) (r .lies) t
 
--- an order of the result, from the same of the plain value
-pub le-is : {b z : ℤ} (r : Range z) → T (good (r .e)) → b ≤ℤ r .v → b ≤ℤ z
-le-is r t h = rw (plain r t) h
-
-pub is-le : {b z : ℤ} (r : Range z) → T (good (r .e)) → r .v ≤ℤ b → z ≤ℤ b
-is-le r t h = rw (plain r t) h
-
-pub lt-is : {b z : ℤ} (r : Range z) → T (good (r .e)) → b <ℤ r .v → b <ℤ z
-lt-is r t h = rw (plain r t) h
-
-pub is-lt : {b z : ℤ} (r : Range z) → T (good (r .e)) → r .v <ℤ b → z <ℤ b
-is-lt r t h = rw (plain r t) h
+-- what holds of the plain value holds of the value
+pub by-plain : (P : ℤ → Type 0) {z : ℤ} (r : Range z) → T (good (r .e)) → P (r .v) → P z
+by-plain P r t h = subst P (sym (plain r t)) h
 
 -- ---- a test of the code, as a fact of the plain values: `lt-no (param (c .fits .a)) (lit (pos 7)) (c .if1 .left) tt : pos 7 ≤ℤ c .args .a`
 

@@ -1,13 +1,14 @@
 -- The smaller and the larger of two integers, and the ends between which a product lies. Assumes nothing.
 use mathlib.Core.Bool.{cond}
+use mathlib.Core.List.{[], _∷_}
 use mathlib.Core.Logic.{⊎-elim}
-use lib.IntN.{ℤ, pos, negℤ, _*ℤ_, *ℤ-comm}
+use lib.IntN.{ℤ, pos, _*ℤ_, *ℤ-comm}
 use lib.Signed.{leZ, _≤ℤ_, ≤ℤ-refl}
 use Rattle.arith.proofs.Choose.{choose}
-use Rattle.arith.proofs.Laws.{*ℤ-negℤ}
-use Rattle.arith.proofs.Parts.{neg-parts, linear}
+use Rattle.arith.proofs.Quote.{ring!, quote}
+use Rattle.arith.proofs.Parts.{linear}
 use Rattle.arith.proofs.Order.{≤ℤ-trans, ≤ℤ-total, le-true, le-false}
-use Rattle.arith.proofs.Cert.{*ℤ-monoʳ}
+use Rattle.arith.proofs.Cert.{_⊠_, gap, le-by, *ℤ-monoʳ}
 
 -- ---- the smaller and the larger of two integers, computed
 
@@ -34,17 +35,15 @@ max-least a b z h k = choose (λ m. m ≤ℤ z) (leZ a b) b a (λ e. k) (λ e. h
 
 -- ---- a product lies between those of the ends
 
-anti : (y : ℤ) {a b : ℤ} → y ≤ℤ pos 0 → a ≤ℤ b → (b *ℤ y) ≤ℤ (a *ℤ y)
-anti y {a} {b} hy h =
-    let k = rw (*ℤ-negℤ a y, *ℤ-negℤ b y) at (*ℤ-monoʳ (negℤ y) {a = a} {b = b} (omega (linear, neg-parts y)) h) in
-    omega (linear, k, neg-parts (a *ℤ y), neg-parts (b *ℤ y))
+*ℤ-antiʳ : (y : ℤ) {a b : ℤ} → y ≤ℤ pos 0 → a ≤ℤ b → (b *ℤ y) ≤ℤ (a *ℤ y)
+*ℤ-antiʳ y {a} {b} hy h = le-by (gap h ⊠ gap hy) (ring! (y ∷ a ∷ b ∷ []) (search quote depth 20) tt)
 
 module _ {x l h : ℤ} (lx : l ≤ℤ x) (xh : x ≤ℤ h) (y m : ℤ) where
   below : m ≤ℤ (l *ℤ y) → m ≤ℤ (h *ℤ y) → m ≤ℤ (x *ℤ y)
-  below p q = ⊎-elim (λ (n : pos 0 ≤ℤ y). ≤ℤ-trans p (*ℤ-monoʳ y n lx)) (λ n. ≤ℤ-trans q (anti y n xh)) (≤ℤ-total (pos 0) y)
+  below p q = ⊎-elim (λ (n : pos 0 ≤ℤ y). ≤ℤ-trans p (*ℤ-monoʳ y n lx)) (λ n. ≤ℤ-trans q (*ℤ-antiʳ y n xh)) (≤ℤ-total (pos 0) y)
 
   above : (l *ℤ y) ≤ℤ m → (h *ℤ y) ≤ℤ m → (x *ℤ y) ≤ℤ m
-  above p q = ⊎-elim (λ (n : pos 0 ≤ℤ y). ≤ℤ-trans (*ℤ-monoʳ y n xh) q) (λ n. ≤ℤ-trans (anti y n lx) p) (≤ℤ-total (pos 0) y)
+  above p q = ⊎-elim (λ (n : pos 0 ≤ℤ y). ≤ℤ-trans (*ℤ-monoʳ y n xh) q) (λ n. ≤ℤ-trans (*ℤ-antiʳ y n lx) p) (≤ℤ-total (pos 0) y)
 
 abbrev pub lo* : ℤ → ℤ → ℤ → ℤ → ℤ
 lo* a b c d = minℤ (minℤ (a *ℤ c) (a *ℤ d)) (minℤ (b *ℤ c) (b *ℤ d))
@@ -52,14 +51,14 @@ lo* a b c d = minℤ (minℤ (a *ℤ c) (a *ℤ d)) (minℤ (b *ℤ c) (b *ℤ d
 abbrev pub hi* : ℤ → ℤ → ℤ → ℤ → ℤ
 hi* a b c d = maxℤ (maxℤ (a *ℤ c) (a *ℤ d)) (maxℤ (b *ℤ c) (b *ℤ d))
 
-min4 : (p q r s : ℤ) → let m = minℤ (minℤ p q) (minℤ r s) in (m ≤ℤ p) × (m ≤ℤ q) × (m ≤ℤ r) × (m ≤ℤ s)
-min4 p q r s =
+min-each : (p q r s : ℤ) → let m = minℤ (minℤ p q) (minℤ r s) in (m ≤ℤ p) × (m ≤ℤ q) × (m ≤ℤ r) × (m ≤ℤ s)
+min-each p q r s =
     let a = min-left (minℤ p q) (minℤ r s) in
     let b = min-right (minℤ p q) (minℤ r s) in
     (≤ℤ-trans a (min-left p q), ≤ℤ-trans a (min-right p q), ≤ℤ-trans b (min-left r s), ≤ℤ-trans b (min-right r s))
 
-max4 : (p q r s : ℤ) → let m = maxℤ (maxℤ p q) (maxℤ r s) in (p ≤ℤ m) × (q ≤ℤ m) × (r ≤ℤ m) × (s ≤ℤ m)
-max4 p q r s =
+max-each : (p q r s : ℤ) → let m = maxℤ (maxℤ p q) (maxℤ r s) in (p ≤ℤ m) × (q ≤ℤ m) × (r ≤ℤ m) × (s ≤ℤ m)
+max-each p q r s =
     let a = max-left (maxℤ p q) (maxℤ r s) in
     let b = max-right (maxℤ p q) (maxℤ r s) in
     (≤ℤ-trans (max-left p q) a, ≤ℤ-trans (max-right p q) a, ≤ℤ-trans (max-left r s) b, ≤ℤ-trans (max-right r s) b)
@@ -73,10 +72,10 @@ module _ {x y a b c d : ℤ} (ax : a ≤ℤ x) (xb : x ≤ℤ b) (cy : c ≤ℤ 
 
   pub mul-low : lo* a b c d ≤ℤ (x *ℤ y)
   mul-low =
-      let (p, q, r, s) = min4 (a *ℤ c) (a *ℤ d) (b *ℤ c) (b *ℤ d) in
+      let (p, q, r, s) = min-each (a *ℤ c) (a *ℤ d) (b *ℤ c) (b *ℤ d) in
       below ax xb y (lo* a b c d) (side-low a (lo* a b c d) p q) (side-low b (lo* a b c d) r s)
 
   pub mul-high : (x *ℤ y) ≤ℤ hi* a b c d
   mul-high =
-      let (p, q, r, s) = max4 (a *ℤ c) (a *ℤ d) (b *ℤ c) (b *ℤ d) in
+      let (p, q, r, s) = max-each (a *ℤ c) (a *ℤ d) (b *ℤ c) (b *ℤ d) in
       above ax xb y (hi* a b c d) (side-high a (hi* a b c d) p q) (side-high b (hi* a b c d) r s)

@@ -2,15 +2,13 @@
 use mathlib.Core.Path.{_≡_, refl}
 use mathlib.Core.Bool.{Bool, true, false}
 use mathlib.Core.Logic.{_⊎_, inl, inr, ⊎-elim}
-use mathlib.Mathlib.Data.Bool.Basic.{eq-false-of-not-eq-true}
+use mathlib.Mathlib.Data.Bool.Basic.{eq-true-of-not-eq-false, eq-false-of-not-eq-true}
 use Prim.Native.Nat.{ℕ, zero, suc, _+_, _*_, _≤_, min}
 use native.Mathlib.Omega.{arith}
-use borrow.Author.Tests.{leb-true, le-leb}
-use lib.Dec.{T-not}
 use lib.IntN.{ℤ, pos, negsuc, negℤ, natAbs, _+ℤ_, _-ℤ_, _*ℤ_}
 use lib.Signed.{leZ, ltZ, _≤ℤ_, _<ℤ_, ltZ-no, leZ-yes, ltZ-yes, clashℤ}
-use denote.Floats.{is-true}
-use Rattle.arith.specs.Bounds.{Size, sizeUpTo}
+use mir.Facts.{and-yes}
+use Rattle.arith.specs.Bounds.{Within, Size, isWithin}
 use Rattle.arith.proofs.Parts.{p⁺, p⁻, add-parts, sub-parts, neg-parts, linear}
 
 -- ---- a partial order; < is its strict part (`lib.Signed` has `≤ℤ-refl` and `<ℤ-≤ℤ-trans`)
@@ -42,28 +40,27 @@ pub lt-false : {a b : ℤ} → ltZ a b ≡ false → b ≤ℤ a
 lt-false e = ltZ-no (rw e tt)
 
 -- a total order, by a test that computes
-pub ltZ-total : (a b : ℤ) → (a <ℤ b) ⊎ (b ≤ℤ a)
-ltZ-total a b = go (ltZ a b) refl
+pub <ℤ-total : (a b : ℤ) → (a <ℤ b) ⊎ (b ≤ℤ a)
+<ℤ-total a b = go (ltZ a b) refl
   where
     go : (c : Bool) → ltZ a b ≡ c → (a <ℤ b) ⊎ (b ≤ℤ a)
     go true e = inl (lt-true {a = a} {b = b} e)
     go false e = inr (lt-false {a = a} {b = b} e)
 
 pub ≤ℤ-total : (a b : ℤ) → (a ≤ℤ b) ⊎ (b ≤ℤ a)
-≤ℤ-total a b = ⊎-elim (λ h. inl (<ℤ→≤ℤ h)) (λ h. inr h) (ltZ-total a b)
+≤ℤ-total a b = ⊎-elim (λ h. inl (<ℤ→≤ℤ h)) (λ h. inr h) (<ℤ-total a b)
 
 pub le-true : {a b : ℤ} → leZ a b ≡ true → a ≤ℤ b
 le-true e = leZ-yes (rw e tt)
 
 pub le-false : {a b : ℤ} → leZ a b ≡ false → b <ℤ a
-le-false {a} {b} e =
-    ⊎-elim (λ h. h) (λ (h : a ≤ℤ b). absurd (T-not (leZ a b) (rw e tt) (h .le))) (ltZ-total b a)
+le-false {a} {b} e = ⊎-elim (λ h. h) (λ (h : a ≤ℤ b). absurd (rw e at (h .le))) (<ℤ-total b a)
 
 pub true-lt : {a b : ℤ} → a <ℤ b → ltZ a b ≡ true
-true-lt {a} {b} h = is-true (ltZ a b) (h .lt)
+true-lt {a} {b} h = eq-true-of-not-eq-false {b = ltZ a b} (λ e. clashℤ h (lt-false {a = a} {b = b} e))
 
 pub true-le : {a b : ℤ} → a ≤ℤ b → leZ a b ≡ true
-true-le {a} {b} h = is-true (leZ a b) (h .le)
+true-le {a} {b} h = eq-true-of-not-eq-false {b = leZ a b} (λ e. clashℤ (le-false {a = a} {b = b} e) h)
 
 pub false-lt : {a b : ℤ} → b ≤ℤ a → ltZ a b ≡ false
 false-lt {a} {b} h = eq-false-of-not-eq-true {b = ltZ a b} (λ e. clashℤ (lt-true {a = a} {b = b} e) h)
@@ -102,9 +99,9 @@ size-abs {z} {m} h = omega (linear, h .low, h .high, abs-parts z, neg-parts (pos
 pub abs-size : {z : ℤ} {m : ℕ} → natAbs z ≤ m → Size (pos m) z
 abs-size {z} {m} h = record { low = omega (linear, abs-parts z, neg-parts (pos m)); high = omega (linear, abs-parts z) }
 
--- the test of it as a fact, and back
-pub size-true : {z : ℤ} {m : ℕ} → sizeUpTo m z ≡ true → Size (pos m) z
-size-true {z} {m} e = abs-size (leb-true (natAbs z) m e)
+-- the test of two bounds as a fact, and back; a size is the case of -m and m
+pub within-true : {lo hi z : ℤ} → isWithin lo hi z ≡ true → Within lo hi z
+within-true {lo} {hi} {z} e = let t = and-yes (leZ lo z) (leZ z hi) (rw e tt) in record { low = leZ-yes (t .0); high = leZ-yes (t .1) }
 
-pub true-size : {z : ℤ} {m : ℕ} → Size (pos m) z → sizeUpTo m z ≡ true
-true-size {z} {m} h = le-leb (natAbs z) m (size-abs h)
+pub true-within : {lo hi z : ℤ} → Within lo hi z → isWithin lo hi z ≡ true
+true-within h = rw (true-le (h .low), true-le (h .high))

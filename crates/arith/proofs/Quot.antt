@@ -3,8 +3,8 @@ use mathlib.Core.Path.{_≡_, refl, sym, _∙_, ap, subst}
 use mathlib.Core.Bool.{Bool, true, false, cond}
 use mathlib.Core.Logic.{⊎-elim}
 use Prim.Native.Nat.{ℕ, zero, suc, _+_, _-_, _*_, _/_, _%_, _≤_, _<_}
-use native.Mathlib.Nat.{zero-div, mul-div-le, lt-mul-div-succ, mul-div-cancel-left, le-div-iff-mul-le, le-trans, mul-add, mul-one, div-mul-le-self, mod-lt, zero-mod, div-add-mod, le-of-mul-le-mul-left, lt-of-mul-lt-mul-left, lt-of-le-of-lt}
-use lib.IntN.{ℤ, pos, negsuc, negℤ, natAbs, _+ℤ_, _-ℤ_, _*ℤ_, negℤ-negℤ, negℤ-+ℤ, *ℤ-comm}
+use native.Mathlib.Nat.{zero-div, mul-div-le, lt-mul-div-succ, mul-div-cancel-left, le-div-iff-mul-le, le-trans, mul-add, mul-one, div-mul-le-self, mod-lt, zero-mod, div-add-mod, le-of-mul-le-mul-left}
+use lib.IntN.{ℤ, pos, negsuc, negℤ, natAbs, _+ℤ_, _-ℤ_, _*ℤ_, negℤ-negℤ, negℤ-+ℤ}
 use lib.Signed.{_≤ℤ_, _<ℤ_, quotZ, remZ, leZ}
 use Rattle.arith.proofs.Laws.{*ℤ-negℤ, *ℤ-distribˡ, *ℤ-idʳ}
 use Rattle.arith.proofs.Parts.{add-parts, sub-parts, neg-parts, linear}
@@ -30,7 +30,7 @@ module _ (b : ℕ) (b>0 : 0 < b) where
   div-bounds : (n : ℕ) → (b * (n / b) ≤ n) × (n < b * (n / b) + b)
   div-bounds n = (mul-div-le n b, rw (mul-add, mul-one) at (lt-mul-div-succ n b>0))
 
-  pub div-mono : (m n : ℕ) → m ≤ n → m / b ≤ n / b
+  div-mono : (m n : ℕ) → m ≤ n → m / b ≤ n / b
   div-mono m n h = le-div-iff-mul-le b>0 .1 (le-trans (div-mul-le-self m b) h)
 
   -- a not negative: b q ≤ a < b q + b
@@ -70,12 +70,6 @@ module _ (b : ℕ) (b>0 : 0 < b) where
   pub ≤-quot : {a m : ℤ} → (pos b *ℤ m) ≤ℤ a → m ≤ℤ quotZ a (pos b)
   ≤-quot {a} {m} h = subst (λ z. z ≤ℤ quotZ a (pos b)) (quot-*ˡ b m b>0) (quot-mono h)
 
-  pub quot-< : {a m : ℤ} → pos 0 <ℤ m → a <ℤ (pos b *ℤ m) → quotZ a (pos b) <ℤ m
-  quot-< {a} {m} hm h = ⊎-elim
-      (λ (n : pos 0 ≤ℤ a). *ℤ-cancelˡ-< (pos b) (omega linear) (≤ℤ-<ℤ-trans (quot-nonneg a n .1) h))
-      (λ (n : a ≤ℤ pos 0). ≤ℤ-<ℤ-trans (quot-nonpos a n .0) hm)
-      (≤ℤ-total (pos 0) a)
-
   -- the quotient of a number that is not negative is the one q with b q ≤ a < b q + b
   pub quot-unique : {a q : ℤ} → pos 0 ≤ℤ a → (pos b *ℤ q) ≤ℤ a → a <ℤ (pos b *ℤ q +ℤ pos b) → quotZ a (pos b) ≡ q
   quot-unique {a} {q} n h k =
@@ -109,12 +103,6 @@ module _ (b : ℕ) (b>0 : 0 < b) where
 
   pub quot-abs-≤ : (a : ℤ) (m : ℕ) → natAbs a ≤ b * m → natAbs (quotZ a (pos b)) ≤ m
   quot-abs-≤ a m h = le-of-mul-le-mul-left (le-trans (quot-abs-bounds a .0) h) b>0
-
-  pub quot-abs-< : (a : ℤ) (m : ℕ) → natAbs a < b * m → natAbs (quotZ a (pos b)) < m
-  quot-abs-< a m h = lt-of-mul-lt-mul-left b (lt-of-le-of-lt (quot-abs-bounds a .0) h)
-
-pub quot-*ʳ : (b : ℕ) (k : ℤ) → 0 < b → quotZ (k *ℤ pos b) (pos b) ≡ k
-quot-*ʳ b k h = ap (λ z. quotZ z (pos b)) (*ℤ-comm k (pos b)) ∙ quot-*ˡ b k h
 
 pub quot-rem : (a : ℤ) (b : ℕ) → pos b *ℤ quotZ a (pos b) +ℤ remZ a (pos b) ≡ a
 quot-rem (pos a) b = ap pos (div-add-mod a b)

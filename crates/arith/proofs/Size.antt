@@ -1,40 +1,29 @@
 -- The size of a number, |z| ≤ m: of sums, products, multiples and what a division leaves. Assumes nothing.
-use mathlib.Core.Path.{_≡_, refl, subst, subst₂}
+use mathlib.Core.Path.{_≡_, subst}
 use mathlib.Core.List.{[], _∷_}
 use Prim.Native.Nat.{ℕ, _<_}
-use lib.IntN.{ℤ, pos, negℤ, _+ℤ_, _-ℤ_, _*ℤ_}
-use lib.Signed.{_≤ℤ_, _<ℤ_, quotZ}
+use lib.IntN.{ℤ, pos, negℤ, _+ℤ_, _-ℤ_, _*ℤ_, negℤ-negℤ}
+use lib.Signed.{_≤ℤ_, _<ℤ_, quotZ, ≤ℤ-refl}
 pub use Rattle.arith.specs.Bounds.{Size}
-pub use Rattle.arith.proofs.Order.{size-abs, abs-size}
 use Rattle.arith.proofs.Quote.{ring!, quote}
 use Rattle.arith.proofs.Parts.{neg-parts, linear}
-use Rattle.arith.proofs.Cert.{_⊞_, _⊠_, gap, le-by, le-by*, nonneg-by, *ℤ-cancelˡ-≤}
+use Rattle.arith.proofs.Order.{+ℤ-mono, negℤ-anti}
+use Rattle.arith.proofs.Cert.{_⊞_, _⊠_, gap, le-by, le-by*, *ℤ-cancelˡ-≤}
 use Rattle.arith.proofs.Quot.{quot-error}
 
--- the two bounds, as what is not negative
-pub up : {m z : ℤ} → Size m z → pos 0 ≤ℤ (m -ℤ z)
-up h = gap (h .high)
-
-pub down : {m z : ℤ} → Size m z → pos 0 ≤ℤ (m +ℤ z)
-down {m} {z} h = nonneg-by (gap (h .low)) (ring! (m ∷ z ∷ []) (search quote depth 20) tt)
-
-pub size-of : {m z : ℤ} → pos 0 ≤ℤ (m -ℤ z) → pos 0 ≤ℤ (m +ℤ z) → Size m z
-size-of {m} {z} h k = record { low = le-by k (ring! (m ∷ z ∷ []) (search quote depth 20) tt); high = le-by h refl }
-
 pub size-+ : {m k a b : ℤ} → Size m a → Size k b → Size (m +ℤ k) (a +ℤ b)
-size-+ {m} {k} {a} {b} h i = size-of
-    (nonneg-by (up h ⊞ up i) (ring! (m ∷ k ∷ a ∷ b ∷ []) (search quote depth 20) tt))
-    (nonneg-by (down h ⊞ down i) (ring! (m ∷ k ∷ a ∷ b ∷ []) (search quote depth 20) tt))
+size-+ {m} {k} {a} {b} h i = record {
+  low = le-by (gap (h .low) ⊞ gap (i .low)) (ring! (m ∷ k ∷ a ∷ b ∷ []) (search quote depth 20) tt);
+  high = +ℤ-mono (h .high) (i .high);
+}
 
 pub size-neg : {m a : ℤ} → Size m a → Size m (negℤ a)
-size-neg {m} {a} h = size-of
-    (nonneg-by (down h) (ring! (m ∷ a ∷ []) (search quote depth 20) tt))
-    (nonneg-by (up h) (ring! (m ∷ a ∷ []) (search quote depth 20) tt))
+size-neg {m} h = record { low = negℤ-anti (h .high); high = rw negℤ-negℤ at (negℤ-anti (h .low)) }
 
 pub size-* : {m k a b : ℤ} → Size m a → Size k b → Size (m *ℤ k) (a *ℤ b)
 size-* {m} {k} {a} {b} h i = record {
-  low = le-by* 2 tt (up h ⊠ up i ⊞ down h ⊠ down i) (ring! (m ∷ k ∷ a ∷ b ∷ []) (search quote depth 20) tt);
-  high = le-by* 2 tt (up h ⊠ down i ⊞ down h ⊠ up i) (ring! (m ∷ k ∷ a ∷ b ∷ []) (search quote depth 20) tt);
+  low = le-by* 2 tt (gap (h .high) ⊠ gap (i .high) ⊞ gap (h .low) ⊠ gap (i .low)) (ring! (m ∷ k ∷ a ∷ b ∷ []) (search quote depth 20) tt);
+  high = le-by* 2 tt (gap (h .high) ⊠ gap (i .low) ⊞ gap (h .low) ⊠ gap (i .high)) (ring! (m ∷ k ∷ a ∷ b ∷ []) (search quote depth 20) tt);
 }
 
 pub size-wider : {m k a : ℤ} → m ≤ℤ k → Size m a → Size k a
@@ -43,15 +32,12 @@ size-wider {m} {k} {a} l h = record { low = omega (linear, h .low, neg-parts m, 
 pub size-is : {m a b : ℤ} → Size m a → a ≡ b → Size m b
 size-is {m} h e = subst (Size m) e h
 
-pub size-same : {m k a b : ℤ} → Size m a → m ≡ k → a ≡ b → Size k b
-size-same h e f = subst₂ Size e f h
-
 -- what lies from 0 to m
 pub size-nonneg : {m a : ℤ} → pos 0 ≤ℤ a → a ≤ℤ m → Size m a
 size-nonneg {m} {a} l h = record { low = omega (linear, neg-parts m); high = h }
 
 pub size-self : {a : ℤ} → pos 0 ≤ℤ a → Size a a
-size-self {a} l = record { low = omega (linear, neg-parts a); high = omega linear }
+size-self {a} l = size-nonneg l (≤ℤ-refl a)
 
 pub size-cancel : (k : ℤ) {m a : ℤ} → pos 0 <ℤ k → Size (k *ℤ m) (k *ℤ a) → Size m a
 size-cancel k {m} {a} p h = record {

@@ -7,7 +7,7 @@ use Prim.Native.Nat.{ℕ, _*_, _^_, _≤_, _<_}
 use lib.Dec.{T, lit<}
 use lib.IntN.{ℤ, pos, negsuc, negℤ, natAbs, _+ℤ_, _-ℤ_, _*ℤ_}
 use lib.ListN.{getD}
-use lib.Signed.{mag, ltZ, nonNeg, _≤ℤ_, _<ℤ_, quotZ, remZ, ltZ-yes}
+use lib.Signed.{mag, ltZ, nonNeg, _≤ℤ_, _<ℤ_, quotZ, remZ, ltZ-yes, leZ-yes}
 use mir.Syntax.{w32, w64}
 use mir.Val.{Fits, SFits, toZ, ofZ}
 use Rattle.arith.specs.Bounds.{Within, sizeUpTo}
@@ -15,12 +15,13 @@ use Rattle.arith.proofs.Choose.{choose}
 use Rattle.arith.proofs.Laws.{*ℤ-distribˡ, *ℤ-distribʳ, *ℤ-assoc}
 use Rattle.arith.proofs.Quote.{ring!, quote, quote-nat, q-pos}
 use Rattle.arith.proofs.Parts.{linear, add-parts, sub-parts, neg-parts, mul-parts}
-use Rattle.arith.proofs.Order.{≤ℤ-total, lt-true, lt-false, true-lt, abs-*, abs-size, size-abs, size-true}
+use Rattle.arith.proofs.Order.{≤ℤ-total, ≤ℤ-<ℤ-trans, <ℤ→≤ℤ, lt-true, lt-false, true-lt, abs-*, abs-size, size-abs, within-true}
 use Rattle.arith.proofs.Cert.{_⊞_, _⊠_, _·_, sq, num, gap, gap<, nonneg-by, le-by, lt-by, le-by*, eq-by, _⊹_, _⊛_, *ℤ-monoˡ, *ℤ-cancelˡ-≤}
-use Rattle.arith.proofs.Quot.{quot-neg, quot-*ˡ, quot-nonneg, quot-nonpos, quot-mono, quot-≤, quot-unique, quot-rem}
-use Rattle.arith.proofs.Size.{Size, size-+, size-neg, size-*, size-by, size-quot}
+use Rattle.arith.proofs.Quot.{quot-neg, quot-*ˡ, quot-nonneg, quot-nonpos, quot-mono, quot-≤, quot-unique, quot-rem, quot-abs-≤, rem-high}
+use Rattle.arith.proofs.Size.{Size, size-wider, size-+, size-neg, size-*, size-by, size-quot}
+use Rattle.arith.proofs.Interval.{maxℤ, max-least}
 use Rattle.arith.proofs.Sweep.{sweep}
-use Rattle.arith.proofs.Fits.{ranges, shapes, fits, plain, div-fits, inside-of, le-is, within, any, nat-bits, unsigned, lit, param, back, r-add, r-neg, r-mul, r-quot, lt-yes, lt-no, guarded, eq-yes, cast-fits, cast-is}
+use Rattle.arith.proofs.Fits.{ranges, shapes, fits, plain, div-fits, inside-of, by-plain, within, any, nat-bits, unsigned, lit, param, back, r-add, r-neg, r-mul, r-quot, lt-yes, lt-no, guarded, eq-yes, cast-fits, cast-is}
 
 -- ---- equations
 
@@ -62,6 +63,9 @@ strict-product x y h k = lt-by (gap< h ⊠ gap< k) (ring! (x ∷ y ∷ []) (sear
 product-of-bounded : (x y : ℤ) → x ≤ℤ pos 9 → negsuc 8 ≤ℤ x → y ≤ℤ pos 7 → negsuc 6 ≤ℤ y → (x *ℤ y) ≤ℤ pos 63
 product-of-bounded x y a b c d = le-by* 2 tt (gap a ⊠ gap d ⊞ gap b ⊠ gap c) (ring! (x ∷ y ∷ []) (search quote depth 40) tt)
 
+order-from-orders : (a b c : ℤ) → a ≤ℤ b → b <ℤ c → a ≤ℤ c
+order-from-orders a b c h k = <ℤ→≤ℤ (≤ℤ-<ℤ-trans h k)
+
 factor-kept : (k a b : ℤ) → pos 0 ≤ℤ k → a ≤ℤ b → (k *ℤ a) ≤ℤ (k *ℤ b)
 factor-kept k a b p h = *ℤ-monoˡ k p h
 
@@ -78,6 +82,9 @@ by-sign a = ⊎-elim
 
 size-of-turn : (x v s c : ℤ) → Size (pos 100) x → Size (pos 100) v → Size (pos 8) s → Size (pos 8) c → Size (pos 1600) (x *ℤ c -ℤ v *ℤ s)
 size-of-turn x v s c hx hv hs hc = size-+ (size-* hx hc) (size-neg (size-* hv hs))
+
+wider : (a : ℤ) → Size (pos 5) a → Size (pos 7) a
+wider a h = size-wider (leZ-yes tt) h
 
 size-by-a-multiple : (a e f : ℤ) → Size (pos 5) e → Size (pos 6) f → pos 3 *ℤ a ≡ e +ℤ f → Size (pos 4) a
 size-by-a-multiple a e f he hf p = size-by (pos 3) (ltZ-yes tt) (size-+ he hf) (num 1) refl (sym p)
@@ -111,8 +118,14 @@ quotient-is a q n l h = quot-unique 10 (lit< tt) n l h
 rounding-error : (a : ℤ) → Size (pos 10) (a -ℤ pos 10 *ℤ quotZ a (pos 10))
 rounding-error a = size-quot 10 (lit< tt) a
 
+magnitude-of-quotient : (a : ℤ) → natAbs a ≤ 70 → natAbs (quotZ a (pos 10)) ≤ 7
+magnitude-of-quotient a h = quot-abs-≤ 10 (lit< tt) a 7 h
+
 quotient-and-remainder : (a : ℤ) → pos 10 *ℤ quotZ a (pos 10) +ℤ remZ a (pos 10) ≡ a
 quotient-and-remainder a = quot-rem a 10
+
+remainder-at-most : (a : ℤ) → a ≤ℤ pos 25 → remZ a (pos 10) ≤ℤ pos 9
+remainder-at-most a h = rem-high 10 (lit< tt) h
 
 -- ---- tests
 
@@ -123,13 +136,16 @@ fact-as-test : (a b : ℤ) → a <ℤ b → ltZ a b ≡ true
 fact-as-test a b h = true-lt h
 
 size-from-test : (z : ℤ) → sizeUpTo 7 z ≡ true → Size (pos 7) z
-size-from-test z e = size-true {z = z} e
+size-from-test z e = within-true e
 
 chosen-by-test : (a : ℤ) → pos 0 ≤ℤ cond (ltZ a (pos 0)) (negℤ a) a
 chosen-by-test a = choose (λ z. pos 0 ≤ℤ z) (ltZ a (pos 0)) (negℤ a) a
     (λ e. let h = lt-true {a = a} {b = pos 0} e in omega (linear, neg-parts a)) (λ e. lt-false e)
 
 -- ---- a polynomial on an interval
+
+larger-of-two : (a b z : ℤ) → a ≤ℤ z → b ≤ℤ z → maxℤ a b ≤ℤ z
+larger-of-two a b z h k = max-least a b z h k
 
 polynomial-on-interval : (x : ℤ) → pos 0 ≤ℤ x → x ≤ℤ pos 1600 → (x *ℤ (pos 1600 -ℤ x)) ≤ℤ pos 700000
 polynomial-on-interval x h k = sweep (pos 0) (replicate 8 100) (search quote depth 40) tt h k
@@ -158,7 +174,7 @@ value-within : (x : ℤ) → Size (pos 100) x → Within (pos 0) (pos 10000) (to
 value-within x h = inside-of (search ranges depth 9) tt
 
 value-at-least : (a : ℤ) → Within (pos 0) (pos 1000) a → pos 3 ≤ℤ toZ w64 (ofZ w64 (a +ℤ pos 3))
-value-at-least a h = le-is (search ranges depth 9) tt (omega (linear, h .low, add-parts a (pos 3)))
+value-at-least a h = by-plain (λ z. pos 3 ≤ℤ z) (search ranges depth 9) tt (omega (linear, h .low, add-parts a (pos 3)))
 
 result-of-call : (r x : ℤ) → r ≡ quotZ (x *ℤ x) (pos 64) → Size (pos 1000) x → SFits w32 (r -ℤ x)
 result-of-call r x e h = fits (search ranges depth 9) tt

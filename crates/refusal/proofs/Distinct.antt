@@ -14,26 +14,28 @@ byNumber =
     ∷ Name ∷ AnswerOffSheet ∷ []
 
 -- a refusal is found again by its number
-found : (r : Refusal) → (getD byNumber (numberOf r) Cut ≡ r) × (numberOf r ≡ 0 → ⊥)
+found : (r : Refusal) → getD byNumber (numberOf r) Cut ≡ r
 unfolding byNumber
-found Cut = (refl, λ e. omega arith)
-found Kind = (refl, λ e. omega arith)
-found TrailingBytes = (refl, λ e. omega arith)
-found SheetLimit = (refl, λ e. omega arith)
-found SheetConstants = (refl, λ e. omega arith)
-found IdOrder = (refl, λ e. omega arith)
-found PlaceOffSheet = (refl, λ e. omega arith)
-found PlacePosition = (refl, λ e. omega arith)
-found EndCount = (refl, λ e. omega arith)
-found NoRoom = (refl, λ e. omega arith)
-found OffSheet = (refl, λ e. omega arith)
-found OutOfRange = (refl, λ e. omega arith)
-found NothingInReach = (refl, λ e. omega arith)
-found Name = (refl, λ e. omega arith)
-found AnswerOffSheet = (refl, λ e. omega arith)
+found Cut = refl
+found Kind = refl
+found TrailingBytes = refl
+found SheetLimit = refl
+found SheetConstants = refl
+found IdOrder = refl
+found PlaceOffSheet = refl
+found PlacePosition = refl
+found EndCount = refl
+found NoRoom = refl
+found OffSheet = refl
+found OutOfRange = refl
+found NothingInReach = refl
+found Name = refl
+found AnswerOffSheet = refl
 
 pub distinct-numbers : DistinctNumbers
-distinct-numbers r s e = sym (found r .0) ∙ ap (λ n. getD byNumber n Cut) e ∙ found s .0
+distinct-numbers r s e = sym (found r) ∙ ap (λ n. getD byNumber n Cut) e ∙ found s
 
+-- at 0 stands Cut, whose number is 1
 pub no-number-zero : NoNumberZero
-no-number-zero r = found r .1
+unfolding byNumber
+no-number-zero r e = let cut : Cut ≡ r = rw e at (found r) in let k = ap numberOf cut in omega arith

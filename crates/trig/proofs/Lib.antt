@@ -4,5 +4,5 @@ pub mod Mirror
 pub mod Sizes
 pub mod Roots
 pub mod Row
-pub mod Turn
+pub mod NearAngle
 pub mod Circle

@@ -12,7 +12,7 @@ use lib.Signed.{_≤ℤ_, _<ℤ_, clashℤ}
 use Rattle.arith.proofs.Choose.{choose}
 use Rattle.arith.proofs.Quote.{ring!, quote}
 use Rattle.arith.proofs.Parts.{linear}
-use Rattle.arith.proofs.Order.{<ℤ→≤ℤ, ≤ℤ-antisymm, ltZ-total}
+use Rattle.arith.proofs.Order.{<ℤ→≤ℤ, ≤ℤ-antisymm, <ℤ-total}
 use Rattle.arith.proofs.Cert.{_⊞_, _⊠_, _·_, num, gap, gap<, le-by, lt-by, lt-by*}
 use Rattle.trig.specs.Trig.{Root, rootBits, rootBelow, rounded, rootOf}
 use Rattle.trig.specs.Laws.{IsRootBelow, IsRoot}
@@ -39,46 +39,46 @@ below-most q h = le-of-suc-le-suc (lt-of-not-le (λ (l : 2 ^ 30 + 1 ≤ rootBelo
 
 -- ---- the rounded root
 
-same : (q s : ℤ) → pos 1 ≤ℤ s → (s *ℤ s) ≤ℤ q → q ≤ℤ (s *ℤ s +ℤ s) → Root q s
-same q s one h k = record {
+root-same : (q s : ℤ) → pos 1 ≤ℤ s → (s *ℤ s) ≤ℤ q → q ≤ℤ (s *ℤ s +ℤ s) → Root q s
+root-same q s one h k = record {
   low = le-by (4 · gap h ⊞ 4 · gap one ⊞ num 3) (ring! (q ∷ s ∷ []) (search quote depth 40) tt);
   high = lt-by (4 · gap k) (ring! (q ∷ s ∷ []) (search quote depth 40) tt);
 }
 
-next : (q s : ℤ) → pos 0 ≤ℤ s → (s *ℤ s +ℤ s +ℤ pos 1) ≤ℤ q → q <ℤ ((s +ℤ pos 1) *ℤ (s +ℤ pos 1)) → Root q (s +ℤ pos 1)
-next q s s0 h k = record {
+root-next : (q s : ℤ) → pos 0 ≤ℤ s → (s *ℤ s +ℤ s +ℤ pos 1) ≤ℤ q → q <ℤ ((s +ℤ pos 1) *ℤ (s +ℤ pos 1)) → Root q (s +ℤ pos 1)
+root-next q s s-nonneg h k = record {
   low = le-by (4 · gap h ⊞ num 3) (ring! (q ∷ s ∷ []) (search quote depth 40) tt);
-  high = lt-by (4 · gap< k ⊞ 4 · s0 ⊞ num 8) (ring! (q ∷ s ∷ []) (search quote depth 40) tt);
+  high = lt-by (4 · gap< k ⊞ 4 · s-nonneg ⊞ num 8) (ring! (q ∷ s ∷ []) (search quote depth 40) tt);
 }
 
-least : (q s : ℕ) → 1 ≤ q → Below q s → 1 ≤ s
-least q zero one b = omega arith
-least q (suc s) one b = omega arith
+below-positive : (q s : ℕ) → 1 ≤ q → Below q s → 1 ≤ s
+below-positive q zero one b = omega arith
+below-positive q (suc s) one b = omega arith
 
-rounds : (q s : ℕ) → 1 ≤ q → Below q s → Root (pos q) (pos (rounded s (q - s * s)))
+rounded-root : (q s : ℕ) → 1 ≤ q → Below q s → Root (pos q) (pos (rounded s (q - s * s)))
 unfolding rounded
-rounds q s one b =
-    let s1 = least q s one b in
+rounded-root q s one b =
+    let s-positive = below-positive q s one b in
     choose (λ r. Root (pos q) (pos r)) (ltb s (q - s * s)) (s + 1) s
-    (λ e. let l = ltb-true s (q - s * s) e in next (pos q) (pos s) (num s) (omega linear) (omega linear))
-    (λ e. let l = ltb-false s (q - s * s) e in same (pos q) (pos s) (omega linear) (omega linear) (omega linear))
+    (λ e. let l = ltb-true s (q - s * s) e in root-next (pos q) (pos s) (num s) (omega linear) (omega linear))
+    (λ e. let l = ltb-false s (q - s * s) e in root-same (pos q) (pos s) (omega linear) (omega linear) (omega linear))
 
 -- ---- there is no other
 
-above-zero : {q r : ℤ} → Root q r → pos 0 <ℤ r
-above-zero {q} {r} h = lt-by* 8 tt (gap< (h .high) ⊞ gap (h .low)) (ring! (q ∷ r ∷ []) (search quote depth 40) tt)
+root-positive : {q r : ℤ} → Root q r → pos 0 <ℤ r
+root-positive {q} {r} h = lt-by* 8 tt (gap< (h .high) ⊞ gap (h .low)) (ring! (q ∷ r ∷ []) (search quote depth 40) tt)
 
 no-less : {q r s : ℤ} → Root q r → Root q s → r <ℤ s → ⊥
 no-less {q} {r} {s} h k l =
     let g = gap< l in
-    clashℤ (h .high) (le-by (gap (k .low) ⊞ 4 · (g ⊠ (g ⊞ 2 · <ℤ→≤ℤ (above-zero h) ⊞ num 1))) (ring! (q ∷ r ∷ s ∷ []) (search quote depth 40) tt))
+    clashℤ (h .high) (le-by (gap (k .low) ⊞ 4 · (g ⊠ (g ⊞ 2 · <ℤ→≤ℤ (root-positive h) ⊞ num 1))) (ring! (q ∷ r ∷ s ∷ []) (search quote depth 40) tt))
 
 pub one-root : {q r s : ℤ} → Root q r → Root q s → r ≡ s
 one-root {q} {r} {s} h k =
-    ≤ℤ-antisymm (⊎-elim (λ l. absurd (no-less k h l)) (λ g. g) (ltZ-total s r)) (⊎-elim (λ l. absurd (no-less h k l)) (λ g. g) (ltZ-total r s))
+    ≤ℤ-antisymm (⊎-elim (λ l. absurd (no-less k h l)) (λ g. g) (<ℤ-total s r)) (⊎-elim (λ l. absurd (no-less h k l)) (λ g. g) (<ℤ-total r s))
 
 pub is-root : IsRoot
 unfolding rootOf
 is-root q one h =
-    let r = rounds q (rootBelow q) one (is-root-below q h) in
+    let r = rounded-root q (rootBelow q) one (is-root-below q h) in
     (r, λ s k. one-root k r)

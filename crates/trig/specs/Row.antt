@@ -2,7 +2,7 @@
 -- Without rounding, in fractions: h starts as N₀ / D₀; from the row's last factor to its first it becomes 1 - ζ h / factor. ζ = A / B is near z / ONE.
 -- Distances are in thousandths of a ONEth, the bound m of ζ is in fifths.
 use mathlib.Core.List.{List, [], _∷_}
-use Prim.Native.Nat.{ℕ, _+_, _*_, _/_, _≤_}
+use Prim.Native.Nat.{ℕ, _+_, _*_, _/_, _^_, _≤_}
 use lib.IntN.{ℤ, pos, _-ℤ_, _*ℤ_}
 use lib.Signed.{_≤ℤ_, _<ℤ_}
 use Rattle.arith.specs.Bounds.{Size}
@@ -48,3 +48,14 @@ RowFact = (m : ℕ) (row : List ℕ) → AtLeast m row →
     (z A B : ℤ) (u : ℕ) → NearSquare (pos m) z A B (pos u) →
     (N₀ D₀ : ℤ) (e : ℕ) → NearFraction ONE N₀ D₀ (pos e) →
     NearFraction (seriesOf row z) (rowNum A B N₀ D₀ row) (rowDen B D₀ row) (pos (rowError m u e row))
+
+-- the row without rounding may go on where the computed row starts, from ONE: with a factor f and more; how far ONE is off there
+abbrev pub startError : (m f : ℕ) → ℕ
+startError m f = 1 + 200 * m * 2 ^ 30 / f
+
+abbrev pub LongRowFact : Type 0
+LongRowFact = (m : ℕ) (row : List ℕ) → AtLeast m row → (f : ℕ) (more : List ℕ) → AtLeast m (f ∷ more) →
+    (z A B : ℤ) (u : ℕ) → NearSquare (pos m) z A B (pos u) →
+    let N₁ = rowNum A B (pos 1) (pos 1) (f ∷ more) in
+    let D₁ = rowDen B (pos 1) (f ∷ more) in
+    NearFraction (seriesOf row z) (rowNum A B N₁ D₁ row) (rowDen B D₁ row) (pos (rowError m u (startError m f) row))

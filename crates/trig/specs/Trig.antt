@@ -1,11 +1,13 @@
 -- Document 01, 'Angle, sine, cosine, root'. `quotZ` is its quotient: it drops the fraction toward zero.
-use mathlib.Core.Bool.{Bool, cond, _&&_}
+use mathlib.Core.Bool.{Bool, cond}
+use mathlib.Core.Path.{_≡_}
+use mathlib.Core.Logic.{_⊎_}
 use mathlib.Core.List.{List, [], _∷_}
 use Prim.Native.Nat.{ℕ, zero, suc, _+_, _*_, _-_, _^_}
 use lib.Dec.{leb, ltb}
 use lib.IntN.{ℤ, pos, natAbs, _+ℤ_, _-ℤ_, _*ℤ_}
-use lib.Signed.{quotZ, leZ, _≤ℤ_, _<ℤ_}
-use Rattle.arith.specs.Bounds.{sizeUpTo}
+use lib.Signed.{quotZ, _≤ℤ_, _<ℤ_}
+use Rattle.arith.specs.Bounds.{Within, isWithin, sizeUpTo}
 use Rattle.refusal.specs.declared.Refusal.the-variants.{OutOfRange}
 use Rattle.refusal.specs.Numbers.{Reply, accepted, refused}
 use Rattle.trig.specs.declared.Answer.{Answer}
@@ -30,9 +32,16 @@ sineRow = 6 ∷ 20 ∷ 42 ∷ 72 ∷ 110 ∷ 156 ∷ []
 abbrev pub cosineRow : List ℕ
 cosineRow = 2 ∷ 12 ∷ 30 ∷ 56 ∷ 90 ∷ 132 ∷ []
 
+abbrev pub IsRow : List ℕ → Type 0
+IsRow row = (row ≡ sineRow) ⊎ (row ≡ cosineRow)
+
 -- for t, z is the quotient t × t / ONE
 unfoldable pub squareOf : ℤ → ℤ
 squareOf t = quotZ (t *ℤ t) ONE
+
+-- such a z for a t that sine and cosine take: from 0 to 2.25 ONE
+abbrev pub IsSquare : ℤ → Type 0
+IsSquare z = Within (pos 0) (pos 2415919104) z
 
 -- p starts as ONE; from the row's last factor to its first it becomes ONE less the quotient of z × p by ONE × factor
 unfoldable pub seriesOf : List ℕ → ℤ → ℤ
@@ -94,7 +103,7 @@ abbrev pub rootLimit : ℕ
 rootLimit = 2 ^ 60
 
 abbrev pub rootReply : ℤ → Reply
-rootReply q = offered (leZ (pos 1) q && leZ q (pos rootLimit)) (pos (rootOf (natAbs q)))
+rootReply q = offered (isWithin (pos 1) (pos rootLimit) q) (pos (rootOf (natAbs q)))
 
 -- the number and the value that an answer stands for
 abbrev pub replyOf : Answer → Reply

@@ -3,12 +3,11 @@
 //
 // A function whose name ends in _unchecked is not offered to callers: it is for a number that is known to be in range, and the
 // proof of each function that calls it shows that. The function without that ending takes any number, checks, and refuses.
-ghost use mathlib.Core.Logic.{_⊎_};
 ghost use mathlib.Core.Path.{_≡_};
 ghost use Prim.Native.Nat.{_+_, _*_, _≤_};
 ghost use lib.IntN.{pos, natAbs};
 ghost use Rattle.arith.specs.Bounds.{Size, Within, sizeUpTo};
-ghost use Rattle.trig.specs.Trig.{angleOf, angleReply, sineRow, cosineRow, squareOf, seriesOf, sineOf, sineReply, cosineOf, cosineReply, rootBelow, rootOf, rootReply, angleLimit, sineLimit, rootLimit, replyOf};
+ghost use Rattle.trig.specs.Trig.{angleOf, angleReply, IsRow, IsSquare, squareOf, seriesOf, sineOf, sineReply, cosineOf, cosineReply, rootBelow, rootOf, rootReply, angleLimit, sineLimit, rootLimit, replyOf};
 use refusal::Refusal;
 
 // 2^30, which stands for 1.
@@ -112,8 +111,8 @@ fn square(t: i64) -> i64
 
 // The evaluation that sine and cosine share, from the row's last factor to its first. z is a square: from 0 to 2.25 ONE.
 fn series(row: [u32; 6], z: i64) -> i64
-    requires { ⌜ (row ≡ sineRow) ⊎ (row ≡ cosineRow) ⌝ }
-    requires { ⌜ Within (pos 0) (pos 2415919104) z ⌝ }
+    requires { ⌜ IsRow row ⌝ }
+    requires { ⌜ IsSquare z ⌝ }
     ensures { λ r. ⌜ r ≡ seriesOf row z ⌝ }
 {
     let mut p = ONE;

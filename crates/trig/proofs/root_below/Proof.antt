@@ -13,35 +13,33 @@ use Rattle.trig.specs.Trig.{rootBits, rootBelow}
 use Rattle.trig.proofs.Roots.{is-root-below}
 use Rattle.trig.proofs.root_below.Statement.{statement}
 use Rattle.trig.proofs.root_below.Tie as tie
-use Rattle.trig.proofs.root_below.Reads as reads
-use Rattle.trig.proofs.root_below.Lts as lts
 
 -- k bits are still to come, and b is the first of them
-record Climbing (q b s k : ℕ) : Type 0 where
+record BitsLeft (q b s k : ℕ) : Type 0 where
   first : b ≡ 2 ^ k / 2
   room : s + 2 ^ k ≤ 2 ^ 31
   same : rootBits k q s ≡ rootBelow q
 
 abbrev Inv-loop : tie.InvT-loop
-Inv-loop q s₀ bit₀ s bit = (k : ℕ) × Climbing q bit s k
+Inv-loop q s₀ bit₀ s bit = (k : ℕ) × BitsLeft q bit s k
 
 abbrev μ-loop : tie.MeasureT-loop
 μ-loop q s₀ bit₀ s bit = bit
 
 module _ (q b s : ℕ) where
-  bit-most : (k : ℕ) → Climbing q b s k → s + b ≤ 2 ^ 31
+  bit-most : (k : ℕ) → BitsLeft q b s k → s + b ≤ 2 ^ 31
   bit-most k i = omega (arith, i .first, i .room)
 
   -- no bit is left: s is the root
-  done : (k : ℕ) → Climbing q b s k → b ≡ 0 → s ≡ rootBelow q
+  done : (k : ℕ) → BitsLeft q b s k → b ≡ 0 → s ≡ rootBelow q
   unfolding rootBits
   done zero i e = i .same
   done (suc j) i e = absurd (omega (arith, i .first, two-pow-succ j, pow-pos j))
 
-  turn : (k : ℕ) → 0 < b → Climbing q b s k → (t : Bool) → leb ((s + b) * (s + b)) q ≡ t → (k : ℕ) × Climbing q (b / 2) (cond t (s + b) s) k
+  next-bit : (k : ℕ) → 0 < b → BitsLeft q b s k → (t : Bool) → leb ((s + b) * (s + b)) q ≡ t → (k : ℕ) × BitsLeft q (b / 2) (cond t (s + b) s) k
   unfolding rootBits
-  turn zero h i t p = absurd (omega (arith, i .first))
-  turn (suc j) h i t p =
+  next-bit zero h i t p = absurd (omega (arith, i .first))
+  next-bit (suc j) h i t p =
       let d : b ≡ 2 ^ j = omega (arith, i .first, two-pow-succ j) in
       let room = choose (λ n. n + 2 ^ j ≤ 2 ^ 31) t (s + 2 ^ j) s (λ _. omega (arith, i .room, two-pow-succ j)) (λ _. omega (arith, i .room, two-pow-succ j)) in
       (j, rw d (record { first = refl; room = room; same = rw (rw d at p) at (i .same) }))
@@ -66,7 +64,7 @@ loop-less c = omega arith
 loop-again : tie.Need-loop-again Inv-loop μ-loop
 loop-again c =
     let l = c .before .before in
-    let next = turn (l .before .args .q) (l .loop .bit) (l .loop .s) (l .loop .inv .0) (c .before .loop-test .taken) (l .loop .inv .1) in
+    let next = next-bit (l .before .args .q) (l .loop .bit) (l .loop .s) (l .loop .inv .0) (c .before .loop-test .taken) (l .loop .inv .1) in
     ⊎-elim (λ w. rw (w .1) (next true (le-leb _ _ (w .0 .taken)))) (λ w. rw (w .1) (next false (lt-leb _ _ (w .0 .left)))) (c .if1 .came)
 
 found : (c : tie.After-loop Inv-loop μ-loop) → c .before .loop .s ≡ rootBelow (c .before .before .args .q)

@@ -43,13 +43,13 @@ module _ (c : tie.After-root-below) where
   unfolding rootOf
   root-of = ap₂ rounded root-is remainder-is
 
-up : (s m : ℕ) → s < m → s + 1 ≡ rounded s m
+rounded-up : (s m : ℕ) → s < m → s + 1 ≡ rounded s m
 unfolding rounded
-up s m h = rw (lt-ltb s m h)
+rounded-up s m h = rw (lt-ltb s m h)
 
-down : (s m : ℕ) → m ≤ s → s ≡ rounded s m
+rounded-down : (s m : ℕ) → m ≤ s → s ≡ rounded s m
 unfolding rounded
-down s m h = rw (le-ltb s m h)
+rounded-down s m h = rw (le-ltb s m h)
 
 add-result : tie.Need-add-result
 add-result c = search needs
@@ -58,13 +58,13 @@ cast-result : tie.Need-cast-result
 cast-result c = fits (nat {m = 2 ^ 31} (omega (arith, root-most (c .before .before)))) tt
 
 returns : tie.Need-returns
-returns c = let b = c .before .before in toZ-pos w64 (omega (arith, root-most b)) ∙ ap pos (up _ _ (c .if1 .taken) ∙ root-of b)
+returns c = let b = c .before .before in toZ-pos w64 (omega (arith, root-most b)) ∙ ap pos (rounded-up _ _ (c .if1 .taken) ∙ root-of b)
 
 cast-result-2 : tie.Need-cast-result-2
 cast-result-2 c = fits (nat (root-most (c .before .before))) tt
 
 returns-2 : tie.Need-returns-2
-returns-2 c = let b = c .before .before in toZ-pos w64 (omega (arith, root-most b)) ∙ ap pos (down _ _ (c .if1 .left) ∙ root-of b)
+returns-2 c = let b = c .before .before in toZ-pos w64 (omega (arith, root-most b)) ∙ ap pos (rounded-down _ _ (c .if1 .left) ∙ root-of b)
 
 pub root-unchecked-spec : {M : Type 1} → statement M
 root-unchecked-spec = tie.close (tie.spec cast-root-below root-below-requires add-result cast-result returns cast-result-2 returns-2)

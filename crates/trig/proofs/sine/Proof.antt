@@ -3,7 +3,7 @@ use mathlib.Core.Path.{sym, _∙_}
 use borrow.Author.Needs.{needs}
 use mir.Syntax.{w64}
 use mir.Facts.{toZ-ofZ}
-use Rattle.arith.proofs.Order.{size-true}
+use Rattle.arith.proofs.Order.{within-true}
 use Rattle.arith.proofs.Fits.{back}
 use Rattle.trig.proofs.Answers.{answered, out-of-range}
 use Rattle.trig.proofs.sine.Statement.{statement}
@@ -13,7 +13,7 @@ size-up-to-requires : tie.Need-size-up-to-requires
 size-up-to-requires c κs = search needs
 
 sine-unchecked-requires : tie.Need-sine-unchecked-requires
-sine-unchecked-requires c κs = size-true (sym (c .before .size-up-to .ensures) ∙ c .if1 .taken)
+sine-unchecked-requires c κs = within-true (sym (c .before .size-up-to .ensures) ∙ c .if1 .taken)
 
 returns : tie.Need-returns
 returns c =
