@@ -2,7 +2,6 @@
 use mathlib.Core.Path.{_≡_, ap, ap₂, _∙_}
 use Prim.Native.Nat.{ℕ, _+_, _*_, _-_, _^_, _≤_, _<_}
 use native.Mathlib.Omega.{arith}
-use borrow.Author.Needs.{needs}
 use borrow.Author.Tests.{lt-ltb, le-ltb}
 use lib.IntN.{pos, natAbs}
 use mir.Syntax.{w64}
@@ -52,7 +51,7 @@ unfolding rounded
 rounded-down s m h = rw (le-ltb s m h)
 
 add-result : tie.Need-add-result
-add-result c = search needs
+add-result c = omega (arith, root-most (c .before .before))
 
 cast-result : tie.Need-cast-result
 cast-result c = fits (nat {m = 2 ^ 31} (omega (arith, root-most (c .before .before)))) tt
