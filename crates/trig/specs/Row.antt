@@ -38,7 +38,7 @@ pub record NearFraction (p N D e : ℤ) : Type 0 where
   pub N-most : N ≤ℤ D
   pub off : Size (e *ℤ D) (pos 1000 *ℤ (p *ℤ D -ℤ ONE *ℤ N))
 
--- how far p can be off: e at the start; after each factor a whole ONEth for the division, and what is more than (u + m e / 5) / factor
+-- how far p can be off: e at the start; after each factor 1000 for the division, and the next whole number above (u + m e / 5) / factor
 abbrev pub rowError : (m u e : ℕ) → List ℕ → ℕ
 rowError m u e [] = e
 rowError m u e (f ∷ fs) = 1001 + (5 * u + m * rowError m u e fs) / (5 * f)
