@@ -13,7 +13,7 @@ use mir.Facts.{toZ-ofZ, and-yes}
 use Rattle.arith.proofs.Parts.{linear}
 use Rattle.arith.proofs.Order.{≤ℤ-trans, lt-true, lt-false, le-true, le-false}
 use Rattle.arith.proofs.Ends.{Ends, ends, lo, good, inside, bitsE, Lies, fits-lies}
-pub use Rattle.arith.proofs.Range.{Range, Within, shapes, ranges, between, within, via, any, nat, nat-bits, lit, r-bits, r-add, r-neg, r-mul, r-quot, r-rem}
+pub use Rattle.arith.proofs.Range.{Range, Within, shapes, ranges, between, within, via, any, nat, nat-bits, lit, r-bits, r-add, r-neg, r-sub, r-mul, r-quot, r-rem}
 
 pub fits : {w : Width} {z : ℤ} (r : Range z) → T (good (bitsE w (r .e))) → SFits w z
 fits {w} r t = fits-lies w (r .e) (r .lies) t

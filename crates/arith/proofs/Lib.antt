@@ -5,6 +5,7 @@ pub mod Ring
 pub mod Quote
 pub mod Parts
 pub mod Order
+pub mod Tests
 pub mod Cert
 pub mod Quot
 pub mod Size

@@ -39,6 +39,9 @@ r-add a b = record { v = a .v +ℤ b .v; e = addE (a .e) (b .e); lies = lies-add
 abbrev pub r-neg : {x : ℤ} → Range x → Range (negℤ x)
 r-neg a = record { v = negℤ (a .v); e = negE (a .e); lies = lies-neg (a .e) (a .lies) }
 
+abbrev pub r-sub : {x y : ℤ} → Range x → Range y → Range (x -ℤ y)
+r-sub a b = r-add a (r-neg b)
+
 abbrev pub r-mul : {x y : ℤ} → Range x → Range y → Range (x *ℤ y)
 r-mul a b = record { v = a .v *ℤ b .v; e = mulE (a .e) (b .e); lies = lies-mul (a .e) (b .e) (a .lies) (b .lies) }
 

@@ -9,7 +9,8 @@ use Rattle.arith.proofs.Quote.{ring!, quote}
 use Rattle.arith.proofs.Parts.{neg-parts, linear}
 use Rattle.arith.proofs.Order.{+ℤ-mono, negℤ-anti}
 use Rattle.arith.proofs.Cert.{_⊞_, _⊠_, gap, le-by, le-by*, *ℤ-cancelˡ-≤}
-use Rattle.arith.proofs.Quot.{quot-error}
+use Rattle.arith.proofs.Laws.{*ℤ-negℤ}
+use Rattle.arith.proofs.Quot.{quot-error, quot-≤, ≤-quot}
 
 pub size-+ : {m k a b : ℤ} → Size m a → Size k b → Size (m +ℤ k) (a +ℤ b)
 size-+ {m} {k} {a} {b} h i = record {
@@ -56,3 +57,7 @@ size-by k p h c e f = size-cancel k p (size-is (size-wider (le-by c e) h) f)
 -- what a division leaves
 pub size-quot : (b : ℕ) → 0 < b → (a : ℤ) → Size (pos b) (a -ℤ pos b *ℤ quotZ a (pos b))
 size-quot b p a = let e = quot-error b p a in record { low = omega (linear, e .0); high = omega (linear, e .1) }
+
+-- the quotient itself
+pub quot-size : (b : ℕ) → 0 < b → {m a : ℤ} → Size (pos b *ℤ m) a → Size m (quotZ a (pos b))
+quot-size b p {m} {a} h = record { low = ≤-quot b p {a = a} {m = negℤ m} (rw (*ℤ-negℤ (pos b) m) (h .low)); high = quot-≤ b p (h .high) }

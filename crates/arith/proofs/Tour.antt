@@ -1,13 +1,13 @@
 -- Each tool at work, as docs/PROOFS.md shows it: one small example of each. Assumes nothing.
 use mathlib.Core.Path.{_≡_, refl, sym}
-use mathlib.Core.Bool.{true, false, cond}
+use mathlib.Core.Bool.{true, false, cond, _&&_}
 use mathlib.Core.List.{[], _∷_, replicate}
 use mathlib.Core.Logic.{⊎-elim}
 use Prim.Native.Nat.{ℕ, _*_, _^_, _≤_, _<_}
 use lib.Dec.{T, lit<}
 use lib.IntN.{ℤ, pos, negsuc, negℤ, natAbs, _+ℤ_, _-ℤ_, _*ℤ_}
 use lib.ListN.{getD}
-use lib.Signed.{mag, ltZ, nonNeg, _≤ℤ_, _<ℤ_, quotZ, remZ, ltZ-yes, leZ-yes}
+use lib.Signed.{mag, leZ, ltZ, nonNeg, _≤ℤ_, _<ℤ_, quotZ, remZ, ltZ-yes, leZ-yes}
 use mir.Syntax.{w32, w64}
 use mir.Val.{Fits, SFits, toZ, ofZ}
 use Rattle.arith.specs.Bounds.{Within, sizeUpTo}
@@ -16,12 +16,13 @@ use Rattle.arith.proofs.Laws.{*ℤ-distribˡ, *ℤ-distribʳ, *ℤ-asso
 use Rattle.arith.proofs.Quote.{ring!, quote, quote-nat, q-pos}
 use Rattle.arith.proofs.Parts.{linear, add-parts, sub-parts, neg-parts, mul-parts}
 use Rattle.arith.proofs.Order.{≤ℤ-total, ≤ℤ-<ℤ-trans, <ℤ→≤ℤ, lt-true, lt-false, true-lt, abs-*, abs-size, size-abs, within-true}
+use Rattle.arith.proofs.Tests.{said, facts}
 use Rattle.arith.proofs.Cert.{_⊞_, _⊠_, _·_, sq, num, gap, gap<, nonneg-by, le-by, lt-by, le-by*, eq-by, _⊹_, _⊛_, *ℤ-monoˡ, *ℤ-cancelˡ-≤}
 use Rattle.arith.proofs.Quot.{quot-neg, quot-*ˡ, quot-nonneg, quot-nonpos, quot-mono, quot-≤, quot-unique, quot-rem, quot-abs-≤, rem-high}
-use Rattle.arith.proofs.Size.{Size, size-wider, size-+, size-neg, size-*, size-by, size-quot}
+use Rattle.arith.proofs.Size.{Size, size-wider, size-+, size-neg, size-*, size-by, size-quot, quot-size}
 use Rattle.arith.proofs.Interval.{maxℤ, max-least}
 use Rattle.arith.proofs.Sweep.{sweep}
-use Rattle.arith.proofs.Fits.{ranges, shapes, fits, plain, div-fits, inside-of, by-plain, within, any, nat-bits, unsigned, lit, param, back, r-add, r-neg, r-mul, r-quot, lt-yes, lt-no, guarded, eq-yes, cast-fits, cast-is}
+use Rattle.arith.proofs.Fits.{ranges, shapes, fits, plain, div-fits, inside-of, by-plain, within, any, nat-bits, unsigned, lit, param, back, r-sub, r-mul, r-quot, lt-yes, lt-no, guarded, eq-yes, cast-fits, cast-is}
 
 -- ---- equations
 
@@ -112,6 +113,9 @@ quotient-keeps-order a c h = quot-mono 10 (lit< tt) h
 quotient-at-most : (a : ℤ) → a ≤ℤ pos 70 → quotZ a (pos 10) ≤ℤ pos 7
 quotient-at-most a h = quot-≤ 10 (lit< tt) h
 
+size-of-quotient : (a : ℤ) → Size (pos 70) a → Size (pos 7) (quotZ a (pos 10))
+size-of-quotient a h = quot-size 10 (lit< tt) h
+
 quotient-is : (a q : ℤ) → pos 0 ≤ℤ a → (pos 10 *ℤ q) ≤ℤ a → a <ℤ (pos 10 *ℤ q +ℤ pos 10) → quotZ a (pos 10) ≡ q
 quotient-is a q n l h = quot-unique 10 (lit< tt) n l h
 
@@ -138,6 +142,9 @@ fact-as-test a b h = true-lt h
 size-from-test : (z : ℤ) → sizeUpTo 7 z ≡ true → Size (pos 7) z
 size-from-test z e = within-true e
 
+test-of-parts : (a b : ℤ) → (leZ (pos 5) a && leZ a b && ltZ b (pos 9)) ≡ true → Within (pos 5) (pos 8) a
+test-of-parts a b e = let f = facts e (search said depth 9) in omega linear
+
 chosen-by-test : (a : ℤ) → pos 0 ≤ℤ cond (ltZ a (pos 0)) (negℤ a) a
 chosen-by-test a = choose (λ z. pos 0 ≤ℤ z) (ltZ a (pos 0)) (negℤ a) a
     (λ e. let h = lt-true {a = a} {b = pos 0} e in omega (linear, neg-parts a)) (λ e. lt-false e)
@@ -159,7 +166,7 @@ scaled-product-fits : (x y : ℤ) → Size (pos 1073741824) x → Size (pos 1073
 scaled-product-fits x y hx hy = fits (r-quot 1073741824 (r-mul (within hx) (within hy))) tt
 
 difference-fits : (a b : ℤ) → SFits w32 a → SFits w32 b → SFits w64 (a -ℤ b)
-difference-fits a b f g = fits (r-add (any f) (r-neg (any g))) tt
+difference-fits a b f g = fits (r-sub (any f) (any g)) tt
 
 division-fits : (x : ℤ) → Size (pos 1000) x → (0 < 7) × SFits w64 (quotZ (x *ℤ pos 3) (pos 7))
 division-fits x h = div-fits (search ranges depth 9) tt

@@ -1,6 +1,10 @@
-// Runs the steps on the worked examples of document 01, cases 1 to 6, and just outside their ranges: a line for each, its
-// input, and its value or refusal.
+// Runs the engine on the worked examples of document 01, cases 1 to 10, and just outside the steps' ranges: a line for each, its
+// input, and its values or refusal.
+use conic::MapAnswer;
 use libc::STDOUT_FILENO;
+use refusal::Refusal;
+use sheet::Sheet;
+use sheet::Verdict;
 use trig::Answer;
 
 fn main() {
@@ -19,6 +23,65 @@ fn main() {
     show(b"root", 2, trig::root(2));
     show(b"root", 3, trig::root(3));
     show(b"root", 0, trig::root(0));
+    let a = sheet_a(60000000, 536870912);
+    show_forward(a, 31000000, 10000000);
+    show_forward(a, 30000000, 70000000);
+    show_forward(a, 30000000, -50000000);
+    show_forward(a, 30000000, 70000001);
+    show_forward(a, 90000001, 70000000);
+    show_check(b"half-width", 60000001, sheet_a(60000001, 536870912));
+    show_check(b"cone constant", 536870922, sheet_a(60000000, 536870922));
+    show_check(b"cone constant", 536870944, sheet_a(60000000, 536870944));
+}
+
+// Sheet A with a half-width and a cone constant.
+fn sheet_a(half_width: u32, cone_constant: u32) -> Sheet {
+    Sheet {
+        first_parallel: 30000000,
+        second_parallel: 30000000,
+        origin_latitude: 30000000,
+        central_meridian: 10000000,
+        south_edge: 20000000,
+        north_edge: 40000000,
+        half_width: half_width,
+        cone_constant: cone_constant,
+        radius_constant: 129239201,
+    }
+}
+
+fn show_forward(sheet: Sheet, latitude: i64, longitude: i64) {
+    io::write_all(STDOUT_FILENO, b"forward ");
+    print(latitude);
+    io::write_all(STDOUT_FILENO, b" ");
+    print(longitude);
+    let answer = conic::forward(sheet, latitude, longitude);
+    match answer {
+        MapAnswer::Point { x, y } => {
+            io::write_all(STDOUT_FILENO, b" ");
+            print(x);
+            io::write_all(STDOUT_FILENO, b" ");
+            print(y);
+            io::write_all(STDOUT_FILENO, b"\n");
+        }
+        MapAnswer::Refused(r) => {
+            show_refusal(r);
+        }
+    }
+}
+
+fn show_check(number: &[u8], value: i64, sheet: Sheet) {
+    io::write_all(STDOUT_FILENO, number);
+    io::write_all(STDOUT_FILENO, b" ");
+    print(value);
+    let verdict = sheet::check(sheet);
+    match verdict {
+        Verdict::Good => {
+            io::write_all(STDOUT_FILENO, b" good\n");
+        }
+        Verdict::Refused(r) => {
+            show_refusal(r);
+        }
+    }
 }
 
 fn show(step: &[u8], input: i64, answer: Answer) {
@@ -29,12 +92,17 @@ fn show(step: &[u8], input: i64, answer: Answer) {
         Answer::Value(v) => {
             io::write_all(STDOUT_FILENO, b" ");
             print(v);
+            io::write_all(STDOUT_FILENO, b"\n");
         }
         Answer::Refused(r) => {
-            io::write_all(STDOUT_FILENO, b" refused ");
-            print(refusal::number(r) as i64);
+            show_refusal(r);
         }
     }
+}
+
+fn show_refusal(r: Refusal) {
+    io::write_all(STDOUT_FILENO, b" refused ");
+    print(refusal::number(r) as i64);
     io::write_all(STDOUT_FILENO, b"\n");
 }
 

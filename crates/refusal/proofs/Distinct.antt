@@ -1,11 +1,13 @@
--- Two refusals never share a number, and none has the number 0. Assumes nothing.
+-- Two refusals never share a number, and none has the number 0; so replies are told apart. Assumes nothing.
 use mathlib.Core.Path.{_≡_, refl, sym, ap, _∙_}
 use mathlib.Core.List.{List, [], _∷_}
+use Prim.Native.Nat.{ℕ}
 use native.Mathlib.Omega.{arith}
+use lib.IntN.{ℤ}
 use lib.ListN.{getD}
 use Rattle.refusal.specs.declared.Refusal.{Refusal}
 use Rattle.refusal.specs.declared.Refusal.the-variants.{Cut, Kind, TrailingBytes, SheetLimit, SheetConstants, IdOrder, PlaceOffSheet, PlacePosition, EndCount, NoRoom, OffSheet, OutOfRange, NothingInReach, Name, AnswerOffSheet}
-use Rattle.refusal.specs.Numbers.{numberOf, DistinctNumbers, NoNumberZero}
+use Rattle.refusal.specs.Numbers.{numberOf, Reply, accepted, refused, DistinctNumbers, NoNumberZero}
 
 -- the refusals in the order of their numbers; the first stands at 0 too, which is no refusal's number
 byNumber : List Refusal
@@ -39,3 +41,17 @@ distinct-numbers r s e = sym (found r) ∙ ap (λ n. getD byNumber n Cut) e ∙ 
 pub no-number-zero : NoNumberZero
 unfolding byNumber
 no-number-zero r e = let cut : Cut ≡ r = rw e at (found r) in let k = ap numberOf cut in omega arith
+
+-- ---- of replies
+
+number-of : {p q : Reply} → p ≡ q → p .number ≡ q .number
+number-of = ap (λ (x : Reply). x .number)
+
+pub same-refusal : (j k : ℕ) (r s : Refusal) → refused j r ≡ refused k s → r ≡ s
+same-refusal j k r s e = distinct-numbers r s (number-of e)
+
+pub accepted-or-refused : (vs : List ℤ) (k : ℕ) (r : Refusal) → accepted vs ≡ refused k r → ⊥
+accepted-or-refused vs k r e = no-number-zero r (sym (number-of e))
+
+pub same-values : (us vs : List ℤ) → accepted us ≡ accepted vs → us ≡ vs
+same-values us vs = ap (λ (x : Reply). x .values)

@@ -1,2 +1,3 @@
--- The laws of the refusals' numbers.
+-- The laws of the refusals' numbers and of refusals in order.
 pub mod Distinct
+pub mod InOrder

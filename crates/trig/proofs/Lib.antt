@@ -6,3 +6,5 @@ pub mod Roots
 pub mod Row
 pub mod NearAngle
 pub mod Circle
+pub mod PowerSeries
+pub mod ExactErrors

@@ -12,10 +12,12 @@ use lib.ListN.{length, drop, getD}
 use lib.Signed.{_≤ℤ_}
 use mir.Facts.{and-yes}
 use Rattle.arith.specs.Bounds.{Size}
+use Rattle.arith.proofs.Parts.{linear}
 use Rattle.arith.proofs.Order.{size-abs, abs-size, abs-*}
 use Rattle.arith.proofs.Cert.{num, *ℤ-monoʳ}
+use Rattle.arith.proofs.Size.{size-wider}
 use Rattle.arith.proofs.Quot.{quot-mono, quot-abs-≤}
-use Rattle.arith.proofs.Fits.{Range, ranges, inside-of, insideE, within, lit, r-add, r-neg, r-mul, r-quot}
+use Rattle.arith.proofs.Fits.{Range, ranges, inside-of, insideE, within, lit, r-sub, r-mul, r-quot}
 use Rattle.trig.specs.Trig.{ONE, IsRow, IsSquare, angleFactor, angleOf, sineRow, cosineRow, squareOf, seriesOf, sineOf, cosineOf, sineLimit}
 use Rattle.trig.specs.Laws.{AngleSize, SineSize, CosineSize}
 use Rattle.trig.proofs.Mirror.{angle-odd}
@@ -30,7 +32,7 @@ module _ (z : ℤ) (h : IsSquare z) where
   abbrev value-range : (fs : List ℕ) → Range (seriesOf fs z)
   unfolding seriesOf
   value-range [] = lit ONE
-  value-range (f ∷ fs) = r-add (lit ONE) (r-neg (r-quot (1073741824 * f) (r-mul (within h) (value-range fs))))
+  value-range (f ∷ fs) = r-sub (lit ONE) (r-quot (1073741824 * f) (r-mul (within h) (value-range fs)))
 
   -- the test that it is of size up to ONE, from each place of the row on
   abbrev upToOne : List ℕ → Bool
@@ -80,6 +82,10 @@ sine-size t h =
     let s = series-size sineRow 0 (squareOf t) (inl refl) (square-size t h) in
     let k : natAbs t * natAbs p ≤ natAbs t * 1073741824 = mul-le-mul (le-refl (natAbs t)) (size-abs s) in
     abs-size (quot-abs-≤ 1073741824 (lit< tt) (t *ℤ p) (natAbs t) (omega (arith, k, abs-* t p)))
+
+-- so it lies in the range that it takes
+pub sine-within : (t : ℤ) → Size (pos sineLimit) t → Size (pos sineLimit) (sineOf t)
+sine-within t h = let k = size-abs {z = t} {m = sineLimit} h in size-wider (omega linear) (sine-size t h)
 
 pub cosine-size : CosineSize
 unfolding cosineOf

@@ -2,3 +2,4 @@
 pub mod Trig
 pub mod Row
 pub mod Laws
+pub mod Exact

@@ -7,7 +7,7 @@ ghost use mathlib.Core.Path.{_≡_};
 ghost use Prim.Native.Nat.{_+_, _*_, _≤_};
 ghost use lib.IntN.{pos, natAbs};
 ghost use Rattle.arith.specs.Bounds.{Size, Within, sizeUpTo};
-ghost use Rattle.trig.specs.Trig.{angleOf, angleReply, IsRow, IsSquare, squareOf, seriesOf, sineOf, sineReply, cosineOf, cosineReply, rootBelow, rootOf, rootReply, angleLimit, sineLimit, rootLimit, replyOf};
+ghost use Rattle.trig.specs.Trig.{angleOf, angleReply, cosineRow, IsRow, IsSquare, squareOf, seriesOf, sineOf, sineReply, cosineOf, cosineReply, rootBelow, rootOf, rootReply, angleLimit, sineLimit, rootLimit, replyOf};
 use refusal::Refusal;
 
 // 2^30, which stands for 1.
@@ -77,8 +77,7 @@ pub fn sine_unchecked(t: i64) -> i64
     requires { ⌜ Size (pos sineLimit) t ⌝ }
     ensures { λ r. ⌜ r ≡ sineOf t ⌝ }
 {
-    let row = FACTORS[0];
-    t * series(row, square(t)) / ONE
+    sine_by_square(t, square(t))
 }
 
 // The cosine of t, radians in ONEths.
@@ -97,8 +96,45 @@ pub fn cosine_unchecked(t: i64) -> i64
     requires { ⌜ Size (pos sineLimit) t ⌝ }
     ensures { λ r. ⌜ r ≡ cosineOf t ⌝ }
 {
+    cosine_by_square(square(t))
+}
+
+// The sine and the cosine of one angle.
+pub struct SineCosine {
+    pub sine: i64,
+    pub cosine: i64,
+}
+
+// Both of a number in range, which share its square; not offered to callers.
+pub fn sine_cosine_unchecked(t: i64) -> SineCosine
+    requires { ⌜ Size (pos sineLimit) t ⌝ }
+    ensures { λ r. ⌜ r .sine ≡ sineOf t ⌝ }
+    ensures { λ r. ⌜ r .cosine ≡ cosineOf t ⌝ }
+{
+    let z = square(t);
+    SineCosine {
+        sine: sine_by_square(t, z),
+        cosine: cosine_by_square(z),
+    }
+}
+
+// The sine of t, whose square is z.
+fn sine_by_square(t: i64, z: i64) -> i64
+    requires { ⌜ Size (pos sineLimit) t ⌝ }
+    requires { ⌜ z ≡ squareOf t ⌝ }
+    ensures { λ r. ⌜ r ≡ sineOf t ⌝ }
+{
+    let row = FACTORS[0];
+    t * series(row, z) / ONE
+}
+
+// The cosine of an angle whose square is z.
+fn cosine_by_square(z: i64) -> i64
+    requires { ⌜ IsSquare z ⌝ }
+    ensures { λ r. ⌜ r ≡ seriesOf cosineRow z ⌝ }
+{
     let row = FACTORS[1];
-    series(row, square(t))
+    series(row, z)
 }
 
 // The square of t, in ONEths.

@@ -9,7 +9,7 @@ use mir.Syntax.{w64}
 use mir.Val.{SFits, toZ, ofZ}
 use Rattle.arith.proofs.Parts.{linear}
 use Rattle.arith.proofs.Order.{size-abs}
-use Rattle.arith.proofs.Fits.{Range, fits, inside-of, between, lit, param, lt-yes, lt-no, cast-fits, r-bits, r-add, r-neg}
+use Rattle.arith.proofs.Fits.{Range, fits, inside-of, between, lit, param, lt-yes, lt-no, cast-fits, r-bits, r-add, r-sub}
 use Rattle.arith.proofs.Range.{sfits-low, sfits-high}
 use Rattle.demo.proofs.print.Statement.{statement}
 use Rattle.demo.proofs.print.Tie as tie
@@ -23,7 +23,7 @@ module _ (n : ℤ) (f : SFits w64 n) (below : ltZ (toZ w64 (ofZ w64 n)) (pos 0) 
   more = r-add (r-bits w64 negative) (lit (pos 1))
 
   abbrev negated : Range (pos 0 -ℤ toZ w64 (ofZ w64 (toZ w64 (ofZ w64 n) +ℤ pos 1)))
-  negated = r-add (lit (pos 0)) (r-neg (r-bits w64 more))
+  negated = r-sub (lit (pos 0)) (r-bits w64 more)
 
 -- a number that it did not
 module _ (n : ℤ) (f : SFits w64 n) (not-below : ltZ (toZ w64 (ofZ w64 n)) (pos 0) ≡ false) where

@@ -12,7 +12,7 @@ use mir.Syntax.{w64}
 use mir.Val.{toZ, ofZ}
 use mir.Facts.{toZ-ofZ}
 use Rattle.arith.proofs.Quote.{ring!, quote}
-use Rattle.arith.proofs.Fits.{Range, fits, plain, within, via, lit, nat, nat-bits, r-bits, r-add, r-neg, r-mul}
+use Rattle.arith.proofs.Fits.{Range, fits, plain, within, via, lit, nat, nat-bits, r-bits, r-sub, r-mul}
 use Rattle.trig.specs.Trig.{ONE, seriesOf}
 use Rattle.trig.proofs.Sizes.{series-size, factor-at}
 use Rattle.trig.proofs.series.Statement.{statement}
@@ -74,10 +74,10 @@ module _ (c : tie.In-loop Inv-loop μ-loop) where
       ∙ rw (drop-cons row k 0 inside) (ring! (q ∷ []) (search quote depth 20) tt)
 
   abbrev quotient-range : Range quotient
-  quotient-range = via quotient-is (r-add (lit ONE) (r-neg (value-range k)))
+  quotient-range = via quotient-is (r-sub (lit ONE) (value-range k))
 
   abbrev next-range : Range (ONE -ℤ toZ w64 (ofZ w64 quotient))
-  next-range = r-add (lit ONE) (r-neg (r-bits w64 quotient-range))
+  next-range = r-sub (lit ONE) (r-bits w64 quotient-range)
 
   next-is : toZ w64 (ofZ w64 (ONE -ℤ toZ w64 (ofZ w64 quotient))) ≡ seriesOf (drop k row) z
   next-is = plain (r-bits w64 next-range) tt ∙ ring! (seriesOf (drop k row) z ∷ []) (search quote depth 20) tt

@@ -6,13 +6,13 @@ use lib.IntN.{ℤ, pos, negℤ, _-ℤ_, +ℤ-idl}
 use lib.Signed.{leZ}
 use mir.Syntax.{w32, w64}
 use mir.Val.{Fits, SFits, toZ, ofZ}
-use Rattle.arith.proofs.Fits.{Range, fits, plain, lit, r-bits, r-add, r-neg, unsigned, param}
+use Rattle.arith.proofs.Fits.{Range, fits, plain, lit, r-bits, r-sub, unsigned, param}
 use Rattle.trig.proofs.size_up_to.Statement.{statement}
 use Rattle.trig.proofs.size_up_to.Tie as tie
 
 -- -n as the code has it
 abbrev minus : {n : ℕ} → Fits w32 n → Range (pos 0 -ℤ toZ w64 n)
-minus f = r-add (lit (pos 0)) (r-neg (unsigned w64 f))
+minus f = r-sub (lit (pos 0)) (unsigned w64 f)
 
 -- the first test of the code is that of the contract
 first : {a : ℤ} {n : ℕ} → SFits w64 a → Fits w32 n → leZ (toZ w64 (ofZ w64 (pos 0 -ℤ toZ w64 n))) (toZ w64 (ofZ w64 a)) ≡ leZ (negℤ (pos n)) a
