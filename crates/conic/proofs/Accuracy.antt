@@ -3,7 +3,7 @@ use Rattle.sheet.specs.Sheets.{n, offsetOf}
 use Rattle.conic.specs.Conic.{tOf, rOf, r0, xAt, yAt, xOf, yOf}
 use Rattle.conic.specs.Exact.{theta, X, Y}
 use Rattle.conic.specs.Laws.{LessThanThreeUnitsOff}
-use Rattle.conic.proofs.Ranges.{n-within, r-size, d-size}
+use Rattle.conic.proofs.Ranges.{n-size, r-size, d-size}
 use Rattle.conic.proofs.Answered.{on-sheet-answered}
 use Rattle.conic.proofs.NearExact.{x-near, y-near}
 
@@ -14,4 +14,4 @@ less-than-three-units-off s latitude longitude p o =
     let r = rOf s latitude in
     let r-up-to = r-size s p latitude longitude o in
     let d-up-to = d-size s p latitude longitude o in
-    (on-sheet-answered s latitude longitude p o, x-near r d (n s) r-up-to d-up-to (n-within s p), y-near r d (n s) r-up-to d-up-to (n-within s p) (r0 s))
+    (on-sheet-answered s latitude longitude p o, x-near r d (n s) r-up-to d-up-to (n-size s p), y-near r d (n s) r-up-to d-up-to (n-size s p) (r0 s))

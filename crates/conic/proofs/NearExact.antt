@@ -7,7 +7,7 @@ use native.Mathlib.Omega.{arith}
 use lib.Dec.{lit<}
 use lib.IntN.{ℤ, pos, negℤ, natAbs, _-ℤ_, _*ℤ_}
 use lib.Signed.{_≤ℤ_, quotZ, leZ-yes, ltZ-yes}
-use Rattle.arith.specs.Bounds.{Within, Size}
+use Rattle.arith.specs.Bounds.{Size}
 use Rattle.arith.proofs.Quote.{ring!, quote}
 use Rattle.arith.proofs.Order.{abs-*, abs-neg, size-abs}
 use Rattle.arith.proofs.Cert.{_⊠_, _·_, num, gap}
@@ -43,17 +43,17 @@ difference-near : (k : ℕ) (a x : ℤ) (p : Fraction) → Near k x p → Near k
 difference-near k a x p h = rw (difference a x (p .num) (pos (p .den)), abs-neg, one-mul) h
 
 -- the sine is within 5.285 ONEths of the exact one, the cosine within 4.613
-module _ (r d n : ℤ) (r-size : Size (pos 268435456) r) (d-size : Size (pos 60000000) d) (n-within : Within (pos 0) ONE n) where
+module _ (r d n : ℤ) (r-size : Size (pos 268435456) r) (d-size : Size (pos 60000000) d) (n-size : Size ONE n) where
   den-positive : 0 < thetaOf n d .den
   den-positive = lit< tt
 
   pub x-near : Near 3 (quotZ (r *ℤ sineOf (coneAngleOf n d)) ONE) (whole r times sine (thetaOf n d))
   x-near =
       product-near r (sineOf (coneAngleOf n d)) (pos 5285) r-size (leZ-yes tt) (sine (thetaOf n d)) (sine-positive (thetaOf n d) den-positive)
-      (sine-off (thetaOf n d) (coneAngleOf n d) (pos 2030) 5263 (near-theta n d n-within d-size) (pos 5285) (leZ-yes tt))
+      (sine-off (thetaOf n d) (coneAngleOf n d) (pos 2030) 5263 (near-theta n d n-size d-size) (pos 5285) (leZ-yes tt))
 
   pub y-near : (r0 : ℤ) → Near 3 (r0 -ℤ quotZ (r *ℤ cosineOf (coneAngleOf n d)) ONE) (whole r0 minus whole r times cosine (thetaOf n d))
   y-near r0 =
       difference-near 3 r0 (quotZ (r *ℤ cosineOf (coneAngleOf n d)) ONE) (whole r times cosine (thetaOf n d))
       (product-near r (cosineOf (coneAngleOf n d)) (pos 4613) r-size (leZ-yes tt) (cosine (thetaOf n d)) (cosine-positive (thetaOf n d) den-positive)
-      (cosine-off (thetaOf n d) (coneAngleOf n d) (pos 2030) 5263 (near-theta n d n-within d-size)))
+      (cosine-off (thetaOf n d) (coneAngleOf n d) (pos 2030) 5263 (near-theta n d n-size d-size)))

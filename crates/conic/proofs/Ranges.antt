@@ -3,7 +3,7 @@ use mathlib.Core.Path.{_≡_}
 use mathlib.Core.Bool.{true}
 use lib.IntN.{ℤ, pos}
 use lib.Signed.{leZ-yes}
-use Rattle.arith.specs.Bounds.{Within, Size}
+use Rattle.arith.specs.Bounds.{Size}
 use Rattle.arith.proofs.Parts.{linear, neg-parts}
 use Rattle.arith.proofs.Size.{size-wider}
 use Rattle.trig.specs.Trig.{ONE, angleOf, sineLimit}
@@ -19,8 +19,8 @@ module _ (s : Sheet) (p : passesChecks s ≡ true) where
   pub limits : InLimits s
   limits = limits-hold s (passes-limits s p)
 
-  pub n-within : Within (pos 0) ONE (n s)
-  n-within = let l = limits in omega linear
+  pub n-size : Size ONE (n s)
+  n-size = let l = limits in omega linear
 
   pub r0-size : Size (pos 268435456) (r0 s)
   r0-size = let l = limits in radius-size s (f0 s) l (record { low = l .fs-f0; high = l .f0-fn })
@@ -46,6 +46,4 @@ module _ (s : Sheet) (p : passesChecks s ≡ true) where
 
     pub t-size : Size (pos sineLimit) (tOf s longitude)
     unfolding tOf angleOf
-    t-size =
-        let k : Size ONE (n s) = omega (linear, n-within) in
-        size-wider (leZ-yes tt) (cone-angle-size (n s) (pos 60000000) (offsetOf s longitude) k d-size)
+    t-size = size-wider (leZ-yes tt) (cone-angle-size (n s) (pos 60000000) (offsetOf s longitude) n-size d-size)

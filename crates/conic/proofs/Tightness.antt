@@ -10,7 +10,8 @@ use Rattle.conic.specs.Exact.{theta, X, Y}
 use Rattle.conic.specs.Tight.{FourUnitsOffIsFalse, OneUnitIsFalse, FloorBreaksMirror}
 
 pub four-units-off-is-false : FourUnitsOffIsFalse
-unfolding angleOf squareOf seriesOf sineOf cosineOf withinLimits coneAngleOf coneAgrees radiusAgrees constantsAgree sheetRules shifted offsetOf onSheet tOf xAt yAt xOf yOf power factorial series sine cosine theta X Y
+unfolding angleOf squareOf seriesOf sineOf cosineOf withinLimits coneAngleOf coneAgrees radiusAgrees constantsAgree sheetRules shifted offsetOf onSheet
+    tOf xAt yAt xOf yOf power factorial series sine cosine theta X Y
 four-units-off-is-false = ((refl, refl), (lt→ltb _ _, lt→ltb _ _), (lt→ltb _ _, lt→ltb _ _))
 
 pub one-unit-is-false : OneUnitIsFalse

@@ -20,7 +20,8 @@ pub enum MapAnswer {
     Refused(Refusal),
 }
 
-// From globe to map: where a latitude and a longitude lie on the sheet's map.
+// From globe to map: where a latitude and a longitude lie on the sheet's map. Refused with 4 or 5 for the sheet, then 12 (out of
+// range), then 11 (off the sheet).
 pub fn forward(sheet: Sheet, latitude: i64, longitude: i64) -> MapAnswer
     ensures { λ r. ⌜ replyOf r ≡ forwardReply sheet latitude longitude ⌝ }
 {
@@ -47,7 +48,7 @@ pub fn forward_unchecked(sheet: Sheet, latitude: i64, longitude: i64) -> MapAnsw
     }
 }
 
-// The position of what is on the sheet.
+// The map point of a position on the sheet.
 fn position(sheet: Sheet, latitude: i64, longitude: i64) -> MapAnswer
     requires { ⌜ passesChecks sheet ≡ true ⌝ }
     requires { ⌜ onSheet sheet latitude longitude ≡ true ⌝ }

@@ -1,5 +1,5 @@
-// Runs the engine on the worked examples of document 01, cases 1 to 10, and just outside the steps' ranges: a line for each, its
-// input, and its values or refusal.
+// Runs the engine on the worked examples of document 01, cases 1 to 10 (of 7 the way to the map), and just outside the steps'
+// ranges: a line for each, its input, and its values or refusal.
 use conic::MapAnswer;
 use libc::STDOUT_FILENO;
 use refusal::Refusal;
@@ -69,8 +69,9 @@ fn show_forward(sheet: Sheet, latitude: i64, longitude: i64) {
     }
 }
 
-fn show_check(number: &[u8], value: i64, sheet: Sheet) {
-    io::write_all(STDOUT_FILENO, number);
+// A sheet that differs from sheet A in one number: the number's name and value, and what check answers.
+fn show_check(name: &[u8], value: i64, sheet: Sheet) {
+    io::write_all(STDOUT_FILENO, name);
     io::write_all(STDOUT_FILENO, b" ");
     print(value);
     let verdict = sheet::check(sheet);

@@ -6,5 +6,6 @@ use Rattle.conic.specs.Conic.{positionRules, tOf, xAt, yAt, xOf, yOf}
 use Rattle.examples.specs.Examples.{AllHold}
 
 pub all-hold : AllHold
-unfolding angleOf squareOf seriesOf sineOf cosineOf rootBits rootBelow rounded rootOf offered withinLimits coneAngleOf coneAgrees radiusAgrees constantsAgree sheetRules shifted offsetOf onSheet positionRules tOf xAt yAt xOf yOf
+unfolding angleOf squareOf seriesOf sineOf cosineOf rootBits rootBelow rounded rootOf offered
+    withinLimits coneAngleOf coneAgrees radiusAgrees constantsAgree sheetRules shifted offsetOf onSheet positionRules tOf xAt yAt xOf yOf
 all-hold = refl

@@ -16,7 +16,8 @@ accepted-past : (holds : Bool) (k : ℕ) (us : List ℤ) (q : Refusal) (reply : 
 accepted-past true k us q reply e = (refl, e)
 accepted-past false k us q reply e = absurd (accepted-or-refused us k q e)
 
-refused-past : (holds : Bool) (j k : ℕ) (r q : Refusal) (p reply : Reply) → (refused j r ≡ p → refused k r ≡ reply) → refused j r ≡ cond holds p (refused j q) → refused k r ≡ cond holds reply (refused k q)
+refused-past : (holds : Bool) (j k : ℕ) (r q : Refusal) (p reply : Reply) → (refused j r ≡ p → refused k r ≡ reply) →
+    refused j r ≡ cond holds p (refused j q) → refused k r ≡ cond holds reply (refused k q)
 refused-past true j k r q p reply f e = f e
 refused-past false j k r q p reply f e = ap (refused k) (same-refusal j j r q e)
 

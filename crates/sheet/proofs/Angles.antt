@@ -12,26 +12,26 @@ use Rattle.trig.proofs.Sizes.{angle-size, sine-within, cosine-size}
 use Rattle.sheet.specs.Sheets.{coneAngleOf}
 use Rattle.sheet.proofs.ConeAngles.{cone-angle-size}
 
-pub parallel-angle : (f : ℤ) → Size (pos 80000000) f → Size (pos sineLimit) (angleOf f)
+pub parallel-angle-size : (f : ℤ) → Size (pos 80000000) f → Size (pos sineLimit) (angleOf f)
 unfolding angleOf
-parallel-angle f h = size-wider (leZ-yes tt) (angle-size (pos 80000000) f h)
+parallel-angle-size f h = size-wider (leZ-yes tt) (angle-size (pos 80000000) f h)
 
 -- a radius is up to 2^28 units
-pub radius-angle : (a : ℤ) → Size (pos 268435456) a → Size (pos 5030569068) (angleOf a)
+pub radius-angle-size : (a : ℤ) → Size (pos 268435456) a → Size (pos 5030569068) (angleOf a)
 unfolding angleOf
-radius-angle a h = angle-size (pos 268435456) a h
+radius-angle-size a h = angle-size (pos 268435456) a h
 
-pub cone-angle : (n : ℕ) (a : ℤ) → n ≤ 1073741824 → Size (pos 268435456) a → Size (pos 5030569068) (coneAngleOf (pos n) a)
+pub radius-cone-angle-size : (n : ℕ) (a : ℤ) → n ≤ 1073741824 → Size (pos 268435456) a → Size (pos 5030569068) (coneAngleOf (pos n) a)
 unfolding angleOf
-cone-angle n a k h = let n-size : Size ONE (pos n) = omega linear in cone-angle-size (pos n) (pos 268435456) a n-size h
+radius-cone-angle-size n a k h = let n-size : Size ONE (pos n) = omega linear in cone-angle-size (pos n) (pos 268435456) a n-size h
 
 -- ---- ranges
 
 abbrev pub sine-range : {r f : ℤ} → r ≡ sineOf (angleOf f) → Size (pos 80000000) f → Range r
-sine-range {f = f} e h = via e (within (sine-within (angleOf f) (parallel-angle f h)))
+sine-range {f = f} e h = via e (within (sine-within (angleOf f) (parallel-angle-size f h)))
 
 abbrev pub cosine-range : {r f : ℤ} → r ≡ cosineOf (angleOf f) → Size (pos 80000000) f → Range r
-cosine-range {f = f} e h = via e (within (cosine-size (angleOf f) (parallel-angle f h)))
+cosine-range {f = f} e h = via e (within (cosine-size (angleOf f) (parallel-angle-size f h)))
 
 abbrev pub cone-range : {r a : ℤ} {n : ℕ} → r ≡ coneAngleOf (pos n) a → n ≤ 1073741824 → Size (pos 268435456) a → Range r
-cone-range {a = a} {n} e k h = via e (within (cone-angle n a k h))
+cone-range {a = a} {n} e k h = via e (within (radius-cone-angle-size n a k h))

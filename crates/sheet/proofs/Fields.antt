@@ -31,8 +31,8 @@ pub record Typed (s : Sheet) : Type 0 where
 abbrev pub wide : {z : ℤ} → SFits w32 z → Range (toZ w64 (ofZ w64 (toZ w32 (ofZ w32 z))))
 wide f = r-bits w64 (param f)
 
-pub typed : (s : Sheet) → Told s → Typed s
-typed s t = record {
+pub typed : {s : Sheet} → Told s → Typed s
+typed t = record {
   f1 = record { sfits = t .0 .1 };
   f2 = record { sfits = t .1 .0 .1 };
   f0 = record { sfits = t .1 .1 .0 .1 };

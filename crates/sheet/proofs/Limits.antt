@@ -2,10 +2,10 @@
 use mathlib.Core.Bool.{true, _&&_}
 use mathlib.Mathlib.Data.Bool.Basic.{and-elim-left}
 use Rattle.arith.proofs.Parts.{linear, sub-parts}
-use Rattle.sheet.specs.Sheets.{fs, fn, g, withinLimits, constantsAgree, sheetRules}
-use Rattle.sheet.specs.Laws.{LimitsHold, HoldsLimits, PassesLimits, RadiusSize}
 use Rattle.arith.proofs.Order.{true-le, true-lt}
 use Rattle.arith.proofs.Tests.{said, facts}
+use Rattle.sheet.specs.Sheets.{fs, fn, g, withinLimits, constantsAgree, sheetRules}
+use Rattle.sheet.specs.Laws.{LimitsHold, HoldsLimits, PassesLimits, RadiusSize}
 
 pub limits-hold : LimitsHold
 unfolding withinLimits

@@ -12,11 +12,8 @@ use Rattle.sheet.specs.declared.Sheet.{Sheet}
 use Rattle.sheet.specs.Sheets.{m0, w, withinLimits, shifted, offsetOf, onSheet}
 use Rattle.sheet.specs.Laws.{InLimits, IsOnSheet, SameMeridian, mirrored, MirroredOffset}
 use Rattle.sheet.proofs.Limits.{limits-hold}
-use Rattle.sheet.proofs.Shifted.{shifted-range, shifted-turns, shifted-only}
+use Rattle.sheet.proofs.Shifted.{half, shifted-range, shifted-turns, shifted-only}
 use Rattle.sheet.proofs.Positions.{on-sheet-holds, holds-on-sheet}
-
-abbrev half : ℤ
-half = pos 180000000
 
 -- the offset of -180 degrees differs from that of 180 by one turn less
 same-offset : (s : Sheet) → withinLimits s ≡ true → offsetOf s (negℤ half) ≡ offsetOf s half

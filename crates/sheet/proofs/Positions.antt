@@ -1,9 +1,9 @@
 -- What is on the sheet, as orders, and back. Assumes nothing.
 use Rattle.arith.proofs.Parts.{linear}
 use Rattle.arith.proofs.Order.{true-within}
+use Rattle.arith.proofs.Tests.{said, facts}
 use Rattle.sheet.specs.Sheets.{onSheet}
 use Rattle.sheet.specs.Laws.{OnSheetHolds, HoldsOnSheet}
-use Rattle.arith.proofs.Tests.{said, facts}
 
 pub on-sheet-holds : OnSheetHolds
 unfolding onSheet

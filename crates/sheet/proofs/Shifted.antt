@@ -11,7 +11,8 @@ use Rattle.sheet.specs.Sheets.{m0, shifted, offsetOf}
 use Rattle.sheet.specs.Laws.{ShiftedRange, ShiftedTurns, ShiftedOnly, OffsetRange}
 use Rattle.sheet.proofs.Limits.{limits-hold}
 
-abbrev half : ℤ
+-- half a turn, and a turn
+abbrev pub half : ℤ
 half = pos 180000000
 
 abbrev turn : ℤ

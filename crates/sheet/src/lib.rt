@@ -1,5 +1,5 @@
-// A map sheet, its checks, and what is on it (document 01, 'Units and the sheet' and 'From globe to map'). A unit is a millionth of
-// a degree of arc; map coordinates are in the same unit.
+// A map sheet, its checks, and what is on it (document 01, 'Units and the sheet' and 'From globe to map'; 'sheet' and 'unit' are its
+// words). A unit is a millionth of a degree of arc; map coordinates are in the same unit.
 //
 // A function whose name ends in _unchecked is not offered to callers, as in trig.
 ghost use mathlib.Core.Path.{_≡_};
@@ -15,7 +15,8 @@ use trig::ONE;
 // The constants may differ from what the parallels give by this, in ONEths.
 const TOLERANCE: u32 = 32;
 
-// A sheet of the equidistant conic projection: an area between two latitudes and two longitudes, drawn on a cone.
+// A sheet of the equidistant conic projection: an area between two latitudes and two longitudes, drawn on a cone. Its numbers are in
+// units, but for the cone constant.
 pub struct Sheet {
     // The parallels at which the scale is true.
     pub first_parallel: i32,
@@ -30,7 +31,7 @@ pub struct Sheet {
     pub half_width: u32,
     // An angle on the cone as a share of that on the globe, in ONEths: n.
     pub cone_constant: u32,
-    // The radius of the Equator's arc on the map, in units: g.
+    // The radius of the Equator's arc on the map: g.
     pub radius_constant: i32,
 }
 
@@ -40,7 +41,7 @@ pub enum Verdict {
     Refused(Refusal),
 }
 
-// Whether the sheet is within its limits and its constants agree with its parallels.
+// Whether the sheet is within its limits (else refusal 4) and its constants agree with its parallels (else 5).
 pub fn check(sheet: Sheet) -> Verdict
     ensures { λ r. ⌜ replyOf r ≡ checkReply sheet ⌝ }
 {
@@ -146,7 +147,7 @@ pub fn shift(a: i64) -> i64
     }
 }
 
-// How far a longitude lies east of the central meridian; not offered to callers.
+// How far a longitude lies east of the central meridian, negative to the west; not offered to callers.
 pub fn offset_unchecked(sheet: Sheet, longitude: i64) -> i64
     requires { ⌜ Size (pos 180000000) longitude ⌝ }
     ensures { λ r. ⌜ r ≡ offsetOf sheet longitude ⌝ }

@@ -38,7 +38,8 @@ returns : tie.Need-returns
 returns c =
     let s = c .before .before .before .before .before .before in
     let o = sym (on-sheet-is (c .before .before)) ∙ c .before .if2 .taken in
-    ap replyOf (rw (toZ-ofZ (s .fits .latitude), toZ-ofZ (s .fits .longitude)) at (c .position .ensures)) ∙ sym (on-sheet-answered (s .args .sheet) (s .args .latitude) (s .args .longitude) (s .pre) o)
+    ap replyOf (rw (toZ-ofZ (s .fits .latitude), toZ-ofZ (s .fits .longitude)) at (c .position .ensures))
+    ∙ sym (on-sheet-answered (s .args .sheet) (s .args .latitude) (s .args .longitude) (s .pre) o)
 
 returns-2 : tie.Need-returns-2
 returns-2 c =

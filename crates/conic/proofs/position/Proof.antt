@@ -33,10 +33,10 @@ unfolding tOf
 t-is c = back w64 (c .cone-angle-unchecked .result) (c .cone-angle-unchecked .ok) ∙ rw (offset-is (c .before)) at (c .cone-angle-unchecked .ensures)
 
 cast-g : tie.Need-cast-g
-cast-g c = fits (param (typed (c .before .before .before .before .args .sheet) (c .struct-told .given) .g)) tt
+cast-g c = fits (param (typed {s = c .before .before .before .before .args .sheet} (c .struct-told .given) .g)) tt
 
 told : (c : tie.After-struct-told2) → Typed (c .before .before .before .before .before .before .args .sheet)
-told c = typed (c .before .before .before .before .before .before .args .sheet) (c .struct-told2 .given)
+told c = typed (c .struct-told2 .given)
 
 cast-f0 : tie.Need-cast-f0
 cast-f0 c = fits (param (told c .f0)) tt

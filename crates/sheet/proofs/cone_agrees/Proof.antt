@@ -1,14 +1,15 @@
 -- `sheet::cone_agrees` meets its contract. Assumes nothing.
 use mathlib.Core.Path.{_≡_, ap, _∙_}
 use borrow.Author.Needs.{needs}
-use lib.IntN.{pos, _-ℤ_}
+use lib.IntN.{_-ℤ_}
 use mir.Syntax.{w64}
+use mir.Val.{toZ, ofZ}
 use mir.Facts.{toZ-ofZ}
 use Rattle.arith.specs.Bounds.{sizeUpTo}
-use Rattle.arith.proofs.Fits.{Range, shapes, fits, plain, inside-of, within, nat-bits, back, r-bits, r-sub}
+use Rattle.arith.proofs.Fits.{Range, fits, plain, inside-of, within, nat-bits, back, r-bits, r-sub}
 use Rattle.trig.specs.Trig.{angleOf}
-use Rattle.sheet.specs.Sheets.{coneAngleOf, coneAgrees}
-use Rattle.sheet.proofs.Angles.{parallel-angle, sine-range, cosine-range, cone-range}
+use Rattle.sheet.specs.Sheets.{coneAgrees}
+use Rattle.sheet.proofs.Angles.{parallel-angle-size, sine-range, cosine-range, cone-range}
 use Rattle.sheet.proofs.cone_agrees.Statement.{statement}
 use Rattle.sheet.proofs.cone_agrees.Tie as tie
 
@@ -18,53 +19,45 @@ cosine-at-requires c κs = search needs
 cosine-at-requires-2 : tie.Need-cosine-at-requires-2
 cosine-at-requires-2 c κs = search needs
 
--- the two cosines
+-- the two cosines, and their difference as the code has it
 abbrev first : (c : tie.After-cosine-at2) → Range (c .before .cosine-at .result)
 first c = let s = c .before .before .before in cosine-range {f = s .args .f1} (rw (toZ-ofZ (s .fits .f1)) at (c .before .cosine-at .ensures)) (s .pre .1 .0)
 
 abbrev second : (c : tie.After-cosine-at2) → Range (c .cosine-at2 .result)
 second c = let s = c .before .before .before in cosine-range {f = s .args .f2} (rw (toZ-ofZ (s .fits .f2)) at (c .cosine-at2 .ensures)) (s .pre .1 .1)
 
+abbrev fall : (c : tie.After-cosine-at2) → Range (toZ w64 (ofZ w64 (c .before .cosine-at .result)) -ℤ toZ w64 (ofZ w64 (c .cosine-at2 .result)))
+fall c = r-sub (r-bits w64 (first c)) (r-bits w64 (second c))
+
 sub-fall : tie.Need-sub-fall
-sub-fall c =
-    let a = first c in
-    let b = second c in
-    fits (search shapes depth 9) tt
+sub-fall c = fits (fall c) tt
+
+-- f2 - f1, as the code has it
+abbrev apart : (c : tie.After-cosine-at2) →
+    let s = c .before .before .before in Range (toZ w64 (ofZ w64 (s .args .f2)) -ℤ toZ w64 (ofZ w64 (s .args .f1)))
+apart c = let s = c .before .before .before in r-sub (r-bits w64 (within (s .pre .1 .1))) (r-bits w64 (within (s .pre .1 .0)))
 
 sub-cone-angle-unchecked : tie.Need-sub-cone-angle-unchecked
-sub-cone-angle-unchecked c =
-    let s = c .before .before .before in
-    let a = within (s .pre .1 .0) in
-    let b = within (s .pre .1 .1) in
-    fits (search shapes depth 9) tt
+sub-cone-angle-unchecked c = fits (apart c) tt
 
 cone-angle-unchecked-requires : tie.Need-cone-angle-unchecked-requires
-cone-angle-unchecked-requires c κs =
-    let s = c .before .before .before in
-    let a = within (s .pre .1 .0) in
-    let b = within (s .pre .1 .1) in
-    (s .pre .0, inside-of (search shapes depth 9) tt)
+cone-angle-unchecked-requires c κs = (c .before .before .before .pre .0, inside-of (r-bits w64 (apart c)) tt)
 
 -- the angle on the cone
 abbrev turned : (c : tie.After-cone-angle-unchecked) → Range (c .cone-angle-unchecked .result)
 turned c =
     let s = c .before .before .before .before in
-    let a = within (s .pre .1 .0) in
-    let b = within (s .pre .1 .1) in
-    cone-range {a = s .args .f2 -ℤ s .args .f1} (c .cone-angle-unchecked .ensures ∙ ap (coneAngleOf (pos (s .args .n))) (plain (search shapes depth 9) tt)) (s .pre .0) (inside-of (search shapes depth 9) tt)
+    cone-range {a = s .args .f2 -ℤ s .args .f1} (rw (plain (r-bits w64 (apart (c .before))) tt) at (c .cone-angle-unchecked .ensures)) (s .pre .0)
+    (inside-of (r-sub (within (s .pre .1 .1)) (within (s .pre .1 .0))) tt)
 
 sub-size-up-to : tie.Need-sub-size-up-to
-sub-size-up-to c =
-    let t = turned c in
-    let a = first (c .before) in
-    let b = second (c .before) in
-    fits (search shapes depth 9) tt
+sub-size-up-to c = fits (r-sub (r-bits w64 (turned c)) (r-bits w64 (fall (c .before)))) tt
 
 size-up-to-requires : tie.Need-size-up-to-requires
 size-up-to-requires c κs = search needs
 
 angle-unchecked-requires : tie.Need-angle-unchecked-requires
-angle-unchecked-requires c κs = let a = within (c .before .pre .1 .0) in inside-of (search shapes depth 9) tt
+angle-unchecked-requires c κs = inside-of (r-bits w64 (within (c .before .pre .1 .0))) tt
 
 angled : (c : tie.After-angle-unchecked) → c .angle-unchecked .result ≡ angleOf (c .before .before .args .f1)
 angled c = rw (toZ-ofZ (c .before .before .fits .f1)) at (c .angle-unchecked .ensures)
@@ -72,7 +65,7 @@ angled c = rw (toZ-ofZ (c .before .before .fits .f1)) at (c .angle-unchecked .en
 sine-unchecked-requires : tie.Need-sine-unchecked-requires
 sine-unchecked-requires c κs =
     let s = c .before .before in
-    rw (back w64 (c .angle-unchecked .result) (c .angle-unchecked .ok), angled c) (parallel-angle (s .args .f1) (s .pre .1 .0))
+    rw (back w64 (c .angle-unchecked .result) (c .angle-unchecked .ok), angled c) (parallel-angle-size (s .args .f1) (s .pre .1 .0))
 
 cast-size-up-to : tie.Need-cast-size-up-to
 cast-size-up-to c = search needs
@@ -85,10 +78,7 @@ sine c =
     sine-range {f = s .args .f1} (rw (t, angled (c .before)) at (c .sine-unchecked .ensures)) (s .pre .1 .0)
 
 sub-size-up-to-2 : tie.Need-sub-size-up-to-2
-sub-size-up-to-2 c =
-    let n = nat-bits w64 (c .before .before .before .pre .0) in
-    let a = sine c in
-    fits (search shapes depth 9) tt
+sub-size-up-to-2 c = fits (r-sub (nat-bits w64 (c .before .before .before .pre .0)) (r-bits w64 (sine c))) tt
 
 size-up-to-requires-2 : tie.Need-size-up-to-requires-2
 size-up-to-requires-2 c κs = search needs
@@ -98,8 +88,7 @@ unfolding coneAgrees
 returns c =
     let s = c .before .before .before .before .before in
     let below = rw (toZ-ofZ (s .fits .f1), toZ-ofZ (s .fits .f2)) at (c .before .before .before .before .if1 .taken) in
-    let fall = r-bits w64 (r-sub (r-bits w64 (first (c .before .before))) (r-bits w64 (second (c .before .before)))) in
-    rw below (c .size-up-to .ensures ∙ ap (sizeUpTo 32) (plain (r-bits w64 (r-sub (r-bits w64 (turned (c .before))) fall)) tt))
+    rw below (c .size-up-to .ensures ∙ ap (sizeUpTo 32) (plain (r-bits w64 (r-sub (r-bits w64 (turned (c .before))) (r-bits w64 (fall (c .before .before))))) tt))
 
 returns-2 : tie.Need-returns-2
 unfolding coneAgrees

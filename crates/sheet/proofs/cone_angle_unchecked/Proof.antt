@@ -6,7 +6,7 @@ use mir.Facts.{toZ-ofZ}
 use Rattle.arith.proofs.Fits.{Range, shapes, fits, div-fits, plain, inside-of, within, via, nat-bits}
 use Rattle.trig.specs.Trig.{angleOf}
 use Rattle.sheet.specs.Sheets.{coneAngleOf}
-use Rattle.sheet.proofs.Angles.{radius-angle}
+use Rattle.sheet.proofs.Angles.{radius-angle-size}
 use Rattle.sheet.proofs.cone_angle_unchecked.Statement.{statement}
 use Rattle.sheet.proofs.cone_angle_unchecked.Tie as tie
 
@@ -20,7 +20,7 @@ angled : (c : tie.After-angle-unchecked) → c .angle-unchecked .result ≡ angl
 angled c = rw (toZ-ofZ (c .before .fits .a)) at (c .angle-unchecked .ensures)
 
 abbrev angle-range : (c : tie.After-angle-unchecked) → Range (c .angle-unchecked .result)
-angle-range c = via (angled c) (within (radius-angle (c .before .args .a) (c .before .pre .1)))
+angle-range c = via (angled c) (within (radius-angle-size (c .before .args .a) (c .before .pre .1)))
 
 mul-result : tie.Need-mul-result
 mul-result c =

@@ -13,13 +13,13 @@ use Rattle.sheet.proofs.constants_agree.Statement.{statement}
 use Rattle.sheet.proofs.constants_agree.Tie as tie
 
 cast-f1 : tie.Need-cast-f1
-cast-f1 c = fits (param (typed (c .before .before .args .sheet) (c .struct-told .given) .f1)) tt
+cast-f1 c = fits (param (typed {s = c .before .before .args .sheet} (c .struct-told .given) .f1)) tt
 
 cast-f2 : tie.Need-cast-f2
-cast-f2 c = fits (param (typed (c .before .before .before .before .args .sheet) (c .struct-told2 .given) .f2)) tt
+cast-f2 c = fits (param (typed {s = c .before .before .before .before .args .sheet} (c .struct-told2 .given) .f2)) tt
 
 told : (c : tie.After-struct-told3) → Typed (c .before .before .before .before .before .before .args .sheet)
-told c = typed (c .before .before .before .before .before .before .args .sheet) (c .struct-told3 .given)
+told c = typed (c .struct-told3 .given)
 
 cast-g : tie.Need-cast-g
 cast-g c = fits (param (told c .g)) tt

@@ -4,7 +4,7 @@ use mir.Syntax.{w64}
 use mir.Facts.{toZ-ofZ}
 use Rattle.arith.proofs.Fits.{ranges, inside-of, back}
 use Rattle.trig.specs.Trig.{angleOf}
-use Rattle.sheet.proofs.Angles.{parallel-angle}
+use Rattle.sheet.proofs.Angles.{parallel-angle-size}
 use Rattle.sheet.proofs.cosine_at.Statement.{statement}
 use Rattle.sheet.proofs.cosine_at.Tie as tie
 
@@ -15,7 +15,7 @@ angled : (c : tie.After-angle-unchecked) → c .angle-unchecked .result ≡ angl
 angled c = rw (toZ-ofZ (c .before .fits .f)) at (c .angle-unchecked .ensures)
 
 cosine-unchecked-requires : tie.Need-cosine-unchecked-requires
-cosine-unchecked-requires c κs = rw (back w64 (c .angle-unchecked .result) (c .angle-unchecked .ok), angled c) (parallel-angle (c .before .args .f) (c .before .pre))
+cosine-unchecked-requires c κs = rw (back w64 (c .angle-unchecked .result) (c .angle-unchecked .ok), angled c) (parallel-angle-size (c .before .args .f) (c .before .pre))
 
 returns : tie.Need-returns
 returns c =

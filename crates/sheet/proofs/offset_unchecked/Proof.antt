@@ -3,23 +3,23 @@ use mathlib.Core.Path.{ap, _∙_}
 use borrow.Author.Needs.{needs}
 use lib.IntN.{_-ℤ_}
 use mir.Syntax.{w32, w64}
-use mir.Val.{SFits, toZ, ofZ}
+use mir.Val.{toZ, ofZ}
 use Rattle.arith.proofs.Fits.{Range, fits, plain, param, within, back, r-bits, r-sub}
 use Rattle.sheet.specs.Sheets.{m0, shifted, offsetOf}
-use Rattle.sheet.proofs.Fields.{typed, wide}
+use Rattle.sheet.proofs.Fields.{Typed, typed, wide}
 use Rattle.sheet.proofs.offset_unchecked.Statement.{statement}
 use Rattle.sheet.proofs.offset_unchecked.Tie as tie
 
-abbrev meridian : (c : tie.After-struct-told) → SFits w32 (m0 (c .before .before .args .sheet))
-meridian c = typed (c .before .before .args .sheet) (c .struct-told .given) .m0
+told : (c : tie.After-struct-told) → Typed (c .before .before .args .sheet)
+told c = typed (c .struct-told .given)
 
 -- the longitude less m0, as the code has it
 abbrev plain-offset : (c : tie.After-struct-told) →
     Range (toZ w64 (ofZ w64 (c .before .before .args .longitude)) -ℤ toZ w64 (ofZ w64 (toZ w32 (ofZ w32 (m0 (c .before .before .args .sheet))))))
-plain-offset c = r-sub (r-bits w64 (within (c .before .before .pre))) (wide (meridian c))
+plain-offset c = r-sub (r-bits w64 (within (c .before .before .pre))) (wide (told c .m0))
 
 cast-shift : tie.Need-cast-shift
-cast-shift c = fits (param (meridian c)) tt
+cast-shift c = fits (param (told c .m0)) tt
 
 sub-shift : tie.Need-sub-shift
 sub-shift c = fits (plain-offset c) tt

@@ -30,10 +30,10 @@ offset-is c =
     back w64 (c .offset-unchecked .result) (c .offset-unchecked .ok) ∙ rw (toZ-ofZ (c .before .before .before .fits .longitude)) at (c .offset-unchecked .ensures)
 
 cast-result : tie.Need-cast-result
-cast-result c = fits (param (typed (c .before .before .before .before .before .args .sheet) (c .struct-told .given) .fs)) tt
+cast-result c = fits (param (typed {s = c .before .before .before .before .before .args .sheet} (c .struct-told .given) .fs)) tt
 
 told : (c : tie.After-struct-told2) → Typed (c .before .before .before .before .before .before .before .args .sheet)
-told c = typed (c .before .before .before .before .before .before .before .args .sheet) (c .struct-told2 .given)
+told c = typed (c .struct-told2 .given)
 
 cast-result-2 : tie.Need-cast-result-2
 cast-result-2 c = fits (param (told c .fn)) tt

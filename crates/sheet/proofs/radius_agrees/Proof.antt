@@ -4,7 +4,7 @@ use borrow.Author.Needs.{needs}
 use mir.Syntax.{w64}
 use mir.Facts.{toZ-ofZ}
 use Rattle.arith.specs.Bounds.{sizeUpTo}
-use Rattle.arith.proofs.Fits.{Range, shapes, fits, plain, r-bits, r-sub}
+use Rattle.arith.proofs.Fits.{Range, fits, plain, r-bits, r-sub}
 use Rattle.sheet.specs.Sheets.{radiusAgrees}
 use Rattle.sheet.proofs.Angles.{cosine-range, cone-range}
 use Rattle.sheet.proofs.radius_agrees.Statement.{statement}
@@ -27,10 +27,7 @@ cosine c =
     cosine-range {f = s .args .f1} (rw (toZ-ofZ (s .fits .f1)) at (c .cosine-at .ensures)) (s .pre .1 .0)
 
 sub-size-up-to : tie.Need-sub-size-up-to
-sub-size-up-to c =
-    let a = turned c in
-    let b = cosine c in
-    fits (search shapes depth 9) tt
+sub-size-up-to c = fits (r-sub (r-bits w64 (turned c)) (r-bits w64 (cosine c))) tt
 
 size-up-to-requires : tie.Need-size-up-to-requires
 size-up-to-requires c κs = search needs

@@ -9,7 +9,7 @@ use Rattle.sheet.proofs.within_limits.Statement.{statement}
 use Rattle.sheet.proofs.within_limits.Tie as tie
 
 told : (c : tie.After-struct-told7) → Typed (c .before .before .before .before .before .before .before .before .before .args .sheet)
-told c = typed (c .before .before .before .before .before .before .before .before .before .args .sheet) (c .struct-told7 .given)
+told c = typed (c .struct-told7 .given)
 
 cast-n : tie.Need-cast-n
 cast-n c = search needs
@@ -33,7 +33,17 @@ returns : tie.Need-returns
 unfolding withinLimits
 returns c =
     let t = told c in
-    rw (plain (unsigned w64 (t .n)) tt, plain (r-bits w64 (r-sub (wide (t .g)) (wide (t .fn)))) tt, plain (r-bits w64 (r-sub (wide (t .g)) (wide (t .fs)))) tt, toZ-ofZ (t .f1), toZ-ofZ (t .f2), toZ-ofZ (t .f0), toZ-ofZ (t .m0), toZ-ofZ (t .fs), toZ-ofZ (t .fn))
+    rw (
+      plain (unsigned w64 (t .n)) tt,
+      plain (r-bits w64 (r-sub (wide (t .g)) (wide (t .fn)))) tt,
+      plain (r-bits w64 (r-sub (wide (t .g)) (wide (t .fs)))) tt,
+      toZ-ofZ (t .f1),
+      toZ-ofZ (t .f2),
+      toZ-ofZ (t .f0),
+      toZ-ofZ (t .m0),
+      toZ-ofZ (t .fs),
+      toZ-ofZ (t .fn),
+    )
 
 pub within-limits-spec : {M : Type 1} → statement M
 within-limits-spec =
