@@ -27,20 +27,27 @@ same-value e s N D n d D-positive d-nonneg same off =
     let ρ = e ∷ s ∷ N ∷ D ∷ n ∷ d ∷ [] in
     size-by D D-positive (size-scale d-nonneg off) (num 0) (ring! ρ (search quote depth 40) tt) (eq-by ((pos 1000 *ℤ ONE) ⊛ same) (ring! ρ (search quote depth 40) tt))
 
+-- how far the rows are off, where the square is within v; the exact rows go on with 210, .., 420 and 182, .., 462
+abbrev sineRowError : (v : ℕ) → ℕ
+sineRowError v = rowError 6 v (startError 6 210) sineRow
+
+abbrev cosineRowError : (v : ℕ) → ℕ
+cosineRowError v = rowError 6 v (startError 6 182) cosineRow
+
 module _ (θ : Fraction) (t u : ℤ) (v : ℕ) (angle : NearAngle t (θ .num) (pos (θ .den)) u (pos v)) where
-  sine-row-near : NearFraction (seriesOf sineRow (squareOf t)) (numOf θ 1 10) (denOf θ 1 10) (pos (rowError 6 v (startError 6 210) sineRow))
+  sine-row-near : NearFraction (seriesOf sineRow (squareOf t)) (numOf θ 1 10) (denOf θ 1 10) (pos (sineRowError v))
   sine-row-near = long-row-fact 6 sineRow (omega arith) 210 (272 ∷ 342 ∷ 420 ∷ []) (omega arith) (squareOf t) _ _ v (angle .square)
 
-  cosine-row-near : NearFraction (cosineOf t) (numOf θ 0 11) (denOf θ 0 11) (pos (rowError 6 v (startError 6 182) cosineRow))
+  cosine-row-near : NearFraction (cosineOf t) (numOf θ 0 11) (denOf θ 0 11) (pos (cosineRowError v))
   unfolding cosineOf
   cosine-row-near = long-row-fact 6 cosineRow (omega arith) 182 (240 ∷ 306 ∷ 380 ∷ 462 ∷ []) (omega arith) (squareOf t) _ _ v (angle .square)
 
-  pub sine-off : (e : ℤ) → (pos 21 *ℤ pos (rowError 6 v (startError 6 210) sineRow) +ℤ pos 20 *ℤ u +ℤ pos 20000) ≤ℤ (pos 20 *ℤ e) → Off e (sineOf t) (sine θ)
+  pub sine-off : (e : ℤ) → (pos 21 *ℤ pos (sineRowError v) +ℤ pos 20 *ℤ u +ℤ pos 20000) ≤ℤ (pos 20 *ℤ e) → Off e (sineOf t) (sine θ)
   sine-off e enough =
       same-value e (sineOf t) (θ .num *ℤ numOf θ 1 10) (pos (θ .den) *ℤ denOf θ 1 10) (sine θ .num) (pos (sine θ .den))
       (0<* (angle .b-positive) (sine-row-near .D-positive)) (num (sine θ .den)) (sine-is-row θ) (sine-error angle sine-row-near e enough)
 
-  pub cosine-off : Off (pos (rowError 6 v (startError 6 182) cosineRow)) (cosineOf t) (cosine θ)
+  pub cosine-off : Off (pos (cosineRowError v)) (cosineOf t) (cosine θ)
   cosine-off =
-      same-value (pos (rowError 6 v (startError 6 182) cosineRow)) (cosineOf t) (numOf θ 0 11) (denOf θ 0 11) (cosine θ .num) (pos (cosine θ .den))
+      same-value (pos (cosineRowError v)) (cosineOf t) (numOf θ 0 11) (denOf θ 0 11) (cosine θ .num) (pos (cosine θ .den))
       (cosine-row-near .D-positive) (num (cosine θ .den)) (cosine-is-row θ) (cosine-row-near .off)
