@@ -46,9 +46,12 @@ by-plain P r t h = subst P (sym (plain r t)) h
 
 -- ---- a test of the code, as a fact of the plain values: `lt-no (param (c .fits .a)) (lit (pos 7)) (c .if1 .left) tt : pos 7 ≤ℤ c .args .a`
 
--- a parameter as the code reads it
+-- a parameter as the code reads it, by its type, and by a bound
 abbrev pub param : {w : Width} {z : ℤ} → SFits w z → Range (toZ w (ofZ w z))
 param f = via (toZ-ofZ f) (any f)
+
+abbrev pub bounded : (w : Width) {l h z : ℤ} → Within l h z → Range (toZ w (ofZ w z))
+bounded w k = r-bits w (within k)
 
 -- a call's result as the code reads it, by the bare bound that a need has of it: `back w64 (c .f .result) (c .f .ok)`
 pub back : (w : Width) (z : ℤ) → mag z < 2 ^ hbits w → toZ w (ofZ w z) ≡ z

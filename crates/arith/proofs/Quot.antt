@@ -1,15 +1,18 @@
 -- The laws of `quotZ a (pos b)`, division toward zero by a positive number b. Assumes nothing.
 use mathlib.Core.Path.{_≡_, refl, sym, _∙_, ap, subst}
 use mathlib.Core.Bool.{Bool, true, false, cond}
+use mathlib.Core.List.{[], _∷_}
 use mathlib.Core.Logic.{⊎-elim}
 use Prim.Native.Nat.{ℕ, zero, suc, _+_, _-_, _*_, _/_, _%_, _≤_, _<_}
 use native.Mathlib.Nat.{zero-div, mul-div-le, lt-mul-div-succ, mul-div-cancel-left, le-div-iff-mul-le, le-trans, mul-add, mul-one, div-mul-le-self, mod-lt, zero-mod, div-add-mod, le-of-mul-le-mul-left}
 use lib.IntN.{ℤ, pos, negsuc, negℤ, natAbs, _+ℤ_, _-ℤ_, _*ℤ_, negℤ-negℤ, negℤ-+ℤ}
 use lib.Signed.{_≤ℤ_, _<ℤ_, quotZ, remZ, leZ}
+use Rattle.arith.specs.Bounds.{Within}
+use Rattle.arith.proofs.Quote.{ring!, quote-nat, q-pos}
 use Rattle.arith.proofs.Laws.{*ℤ-negℤ, *ℤ-distribˡ, *ℤ-idʳ}
 use Rattle.arith.proofs.Parts.{add-parts, sub-parts, neg-parts, linear}
 use Rattle.arith.proofs.Order.{≤ℤ-trans, negℤ-anti, abs-neg, ≤ℤ-total, ≤ℤ-<ℤ-trans, ≤ℤ-antisymm, le-true}
-use Rattle.arith.proofs.Cert.{*ℤ-cancelˡ-<}
+use Rattle.arith.proofs.Cert.{_⊞_, gap, gap<, le-by, lt-by, *ℤ-cancelˡ-<}
 
 pub quot-neg : (a : ℤ) (b : ℕ) → quotZ (negℤ a) (pos b) ≡ negℤ (quotZ a (pos b))
 quot-neg (pos zero) b = rw zero-div
@@ -69,6 +72,18 @@ module _ (b : ℕ) (b>0 : 0 < b) where
 
   pub ≤-quot : {a m : ℤ} → (pos b *ℤ m) ≤ℤ a → m ≤ℤ quotZ a (pos b)
   ≤-quot {a} {m} h = subst (λ z. z ≤ℤ quotZ a (pos b)) (quot-*ˡ b m b>0) (quot-mono h)
+
+  -- from a up to c, which is b k or less above it, the quotient goes up by k or less
+  pub quot-step : {a c k : ℤ} → a ≤ℤ c → c ≤ℤ (a +ℤ pos b *ℤ k) → Within (pos 0) k (quotZ c (pos b) -ℤ quotZ a (pos b))
+  quot-step {a} {c} {k} h l =
+      let p = quotZ a (pos b) in
+      let q = quotZ c (pos b) in
+      let ρ = pos b ∷ a ∷ c ∷ k ∷ p ∷ q ∷ [] in
+      let below : q <ℤ (p +ℤ k +ℤ pos 1) = *ℤ-cancelˡ-< (pos b) (omega linear) (⊎-elim
+      (λ i. lt-by (gap (quot-nonneg c i .1) ⊞ gap l ⊞ gap< (quot-error a .1)) (ring! ρ (search (quote-nat, q-pos 1) depth 40) tt))
+      (λ i. lt-by (gap< (quot-error c .0) ⊞ gap l ⊞ gap (quot-nonpos a (≤ℤ-trans h i) .1)) (ring! ρ (search (quote-nat, q-pos 1) depth 40) tt))
+      (≤ℤ-total (pos 0) c)) in
+      record { low = gap (quot-mono h); high = le-by (gap< below) (ring! ρ (search (quote-nat, q-pos 1) depth 40) tt) }
 
   -- the quotient of a number that is not negative is the one q with b q ≤ a < b q + b
   pub quot-unique : {a q : ℤ} → pos 0 ≤ℤ a → (pos b *ℤ q) ≤ℤ a → a <ℤ (pos b *ℤ q +ℤ pos b) → quotZ a (pos b) ≡ q

@@ -18,11 +18,11 @@ use Rattle.arith.proofs.Parts.{linear, add-parts, sub-parts, neg-parts,
 use Rattle.arith.proofs.Order.{≤ℤ-total, ≤ℤ-<ℤ-trans, <ℤ→≤ℤ, lt-true, lt-false, true-lt, abs-*, abs-size, size-abs, within-true}
 use Rattle.arith.proofs.Tests.{said, facts}
 use Rattle.arith.proofs.Cert.{_⊞_, _⊠_, _·_, sq, num, gap, gap<, nonneg-by, le-by, lt-by, le-by*, eq-by, _⊹_, _⊛_, *ℤ-monoˡ, *ℤ-cancelˡ-≤}
-use Rattle.arith.proofs.Quot.{quot-neg, quot-*ˡ, quot-nonneg, quot-nonpos, quot-mono, quot-≤, quot-unique, quot-rem, quot-abs-≤, rem-high}
-use Rattle.arith.proofs.Size.{Size, size-wider, size-+, size-neg, size-*, size-by, size-quot, quot-size}
+use Rattle.arith.proofs.Quot.{quot-neg, quot-*ˡ, quot-nonneg, quot-nonpos, quot-mono, quot-step, quot-≤, quot-unique, quot-rem, quot-abs-≤, rem-high}
+use Rattle.arith.proofs.Size.{Size, size-wider, size-+, size-neg, size-*, size-by, size-root, size-quot, quot-size, size-step}
 use Rattle.arith.proofs.Interval.{maxℤ, max-least}
 use Rattle.arith.proofs.Sweep.{sweep}
-use Rattle.arith.proofs.Fits.{ranges, shapes, fits, plain, div-fits, inside-of, by-plain, within, any, nat-bits, unsigned, lit, param, back, r-sub, r-mul, r-quot, lt-yes, lt-no, guarded, eq-yes, cast-fits, cast-is}
+use Rattle.arith.proofs.Fits.{ranges, shapes, fits, plain, div-fits, inside-of, by-plain, within, any, nat-bits, unsigned, lit, param, bounded, back, r-sub, r-mul, r-quot, lt-yes, lt-no, guarded, eq-yes, cast-fits, cast-is}
 
 -- ---- equations
 
@@ -90,6 +90,9 @@ wider a h = size-wider (leZ-yes tt) h
 size-by-a-multiple : (a e f : ℤ) → Size (pos 5) e → Size (pos 6) f → pos 3 *ℤ a ≡ e +ℤ f → Size (pos 4) a
 size-by-a-multiple a e f he hf p = size-by (pos 3) (ltZ-yes tt) (size-+ he hf) (num 1) refl (sym p)
 
+size-from-square : (a : ℤ) → (a *ℤ a) ≤ℤ pos 60 → Size (pos 7) a
+size-from-square a h = size-root (num 7) (omega linear)
+
 size-as-magnitude : (z w : ℤ) → natAbs z ≤ 7 → Size (pos 2) w → natAbs (z *ℤ w) ≤ 14
 size-as-magnitude z w h k = size-abs {z = z *ℤ w} {m = 14} (size-* (abs-size {z = z} h) k)
 
@@ -109,6 +112,12 @@ quotient-bounds a h = let n = quot-nonneg 10 (lit< tt) a h in (n .1, n .2)
 
 quotient-keeps-order : (a c : ℤ) → a ≤ℤ c → quotZ a (pos 10) ≤ℤ quotZ c (pos 10)
 quotient-keeps-order a c h = quot-mono 10 (lit< tt) h
+
+quotient-of-a-step : (a c : ℤ) → a ≤ℤ c → c ≤ℤ (a +ℤ pos 30) → Within (pos 0) (pos 3) (quotZ c (pos 10) -ℤ quotZ a (pos 10))
+quotient-of-a-step a c h k = quot-step 10 (lit< tt) h k
+
+size-of-a-step : (a c : ℤ) → Size (pos 30) (c -ℤ a) → Size (pos 3) (quotZ c (pos 10) -ℤ quotZ a (pos 10))
+size-of-a-step a c h = size-step 10 (lit< tt) a c h
 
 quotient-at-most : (a : ℤ) → a ≤ℤ pos 70 → quotZ a (pos 10) ≤ℤ pos 7
 quotient-at-most a h = quot-≤ 10 (lit< tt) h
@@ -164,6 +173,9 @@ product-fits x y hx hy = fits (search ranges depth 9) tt
 
 scaled-product-fits : (x y : ℤ) → Size (pos 1073741824) x → Size (pos 1073741824) y → SFits w64 (quotZ (x *ℤ y) (pos 1073741824))
 scaled-product-fits x y hx hy = fits (r-quot 1073741824 (r-mul (within hx) (within hy))) tt
+
+product-read-fits : (x y : ℤ) → Size (pos 1073741824) x → Size (pos 1073741824) y → SFits w64 (toZ w64 (ofZ w64 x) *ℤ toZ w64 (ofZ w64 y))
+product-read-fits x y hx hy = fits (r-mul (bounded w64 hx) (bounded w64 hy)) tt
 
 difference-fits : (a b : ℤ) → SFits w32 a → SFits w32 b → SFits w64 (a -ℤ b)
 difference-fits a b f g = fits (r-sub (any f) (any g)) tt

@@ -1,4 +1,4 @@
--- What holds of globe to map, and what the functions' proofs share.
+-- What holds of globe to map and of map to globe, and what the functions' proofs share.
 pub mod Answers
 pub mod Ranges
 pub mod Answered
@@ -6,4 +6,9 @@ pub mod Mirrored
 pub mod SheetAngle
 pub mod NearExact
 pub mod Accuracy
+pub mod Halving
+pub mod OwnSheet
+pub mod Distance
+pub mod Returned
+pub mod BackAndForth
 pub mod Tightness

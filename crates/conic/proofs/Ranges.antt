@@ -7,13 +7,26 @@ use Rattle.arith.specs.Bounds.{Size}
 use Rattle.arith.proofs.Parts.{linear, neg-parts}
 use Rattle.arith.proofs.Size.{size-wider}
 use Rattle.trig.specs.Trig.{ONE, angleOf, sineLimit}
+use Rattle.trig.proofs.Sizes.{sine-within, cosine-size}
 use Rattle.sheet.specs.declared.Sheet.{Sheet}
-use Rattle.sheet.specs.Sheets.{f0, w, n, passesChecks, offsetOf, onSheet}
+use Rattle.sheet.specs.Sheets.{f0, w, n, coneAngleOf, passesChecks, offsetOf, onSheet}
 use Rattle.sheet.specs.Laws.{InLimits, IsOnSheet}
 use Rattle.sheet.proofs.Limits.{limits-hold, passes-limits, radius-size}
 use Rattle.sheet.proofs.Positions.{on-sheet-holds}
 use Rattle.sheet.proofs.ConeAngles.{cone-angle-size}
 use Rattle.conic.specs.Conic.{rOf, r0, tOf}
+use Rattle.conic.specs.MapToGlobe.{sineAt, cosineAt}
+
+-- sine and cosine take the angle on the cone of an offset
+pub cone-angle-range : (n d : ℤ) → Size ONE n → Size (pos 60000000) d → Size (pos sineLimit) (coneAngleOf n d)
+unfolding angleOf
+cone-angle-range n d n-up-to d-up-to = size-wider (leZ-yes tt) (cone-angle-size n (pos 60000000) d n-up-to d-up-to)
+
+pub sine-at-size : (n d : ℤ) → Size ONE n → Size (pos 60000000) d → Size (pos sineLimit) (sineAt n d)
+sine-at-size n d n-up-to d-up-to = sine-within (coneAngleOf n d) (cone-angle-range n d n-up-to d-up-to)
+
+pub cosine-at-size : (n d : ℤ) → Size ONE n → Size (pos 60000000) d → Size ONE (cosineAt n d)
+cosine-at-size n d n-up-to d-up-to = cosine-size (coneAngleOf n d) (cone-angle-range n d n-up-to d-up-to)
 
 module _ (s : Sheet) (p : passesChecks s ≡ true) where
   pub limits : InLimits s
@@ -21,6 +34,9 @@ module _ (s : Sheet) (p : passesChecks s ≡ true) where
 
   pub n-size : Size ONE (n s)
   n-size = let l = limits in omega linear
+
+  pub w-size : Size (pos 60000000) (w s)
+  w-size = let l = limits in omega linear
 
   pub r0-size : Size (pos 268435456) (r0 s)
   r0-size = let l = limits in radius-size s (f0 s) l (record { low = l .fs-f0; high = l .f0-fn })
@@ -45,5 +61,5 @@ module _ (s : Sheet) (p : passesChecks s ≡ true) where
         omega (linear, neg-parts (w s))
 
     pub t-size : Size (pos sineLimit) (tOf s longitude)
-    unfolding tOf angleOf
-    t-size = size-wider (leZ-yes tt) (cone-angle-size (n s) (pos 60000000) (offsetOf s longitude) n-size d-size)
+    unfolding tOf
+    t-size = cone-angle-range (n s) (offsetOf s longitude) n-size d-size

@@ -51,6 +51,6 @@ forwardReply s latitude longitude =
     inOrder 2 (sheetRules s ++ positionRules s latitude longitude) (accepted (xOf s latitude longitude ∷ yOf s latitude longitude ∷ []))
 
 -- the number and the values that an answer stands for
-abbrev pub replyOf : MapAnswer → Reply
-replyOf (Point x y) = accepted (x ∷ y ∷ [])
-replyOf (Refused r) = refused 2 r
+abbrev pub mapReplyOf : MapAnswer → Reply
+mapReplyOf (Point x y) = accepted (x ∷ y ∷ [])
+mapReplyOf (Refused r) = refused 2 r

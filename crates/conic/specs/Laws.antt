@@ -1,20 +1,29 @@
--- What holds of globe to map: demand 3 (its first sentence), the mirror, and the laws that the other crates go by. Each is proved in proofs/, in the file that its comment names.
-use mathlib.Core.Bool.{true}
-use mathlib.Core.List.{[], _∷_}
+-- What holds of globe to map and of map to globe: demand 3, the mirror, and the laws that the other crates go by. Each is proved in proofs/, in the file that its comment names.
+use mathlib.Core.Bool.{true, cond}
+use mathlib.Core.List.{[], _∷_, _++_}
 use mathlib.Core.Path.{_≡_}
-use lib.IntN.{ℤ, pos, negℤ}
+use lib.IntN.{ℤ, pos, negℤ, _+ℤ_, _-ℤ_, _*ℤ_}
+use lib.Signed.{_≤ℤ_, _<ℤ_}
+use Rattle.arith.specs.Bounds.{Size}
 use Rattle.refusal.specs.Numbers.{accepted}
+use Rattle.refusal.specs.Rules.{inOrder}
+use Rattle.trig.specs.Trig.{Root}
 use Rattle.trig.specs.Exact.{Near}
 use Rattle.sheet.specs.declared.Sheet.{Sheet}
-use Rattle.sheet.specs.Sheets.{passesChecks, onSheet}
+use Rattle.sheet.specs.Sheets.{passesChecks, sheetRules, onSheet}
 use Rattle.sheet.specs.Laws.{mirrored}
 use Rattle.conic.specs.declared.MapAnswer.{MapAnswer}
-use Rattle.conic.specs.Conic.{xOf, yOf, forwardReply, replyOf}
+use Rattle.conic.specs.declared.GlobeAnswer.{GlobeAnswer}
+use Rattle.conic.specs.Conic.{xOf, yOf, forwardReply, mapReplyOf}
+use Rattle.conic.specs.MapToGlobe.{pointInRange, vOf, radiusAt, notLeft, notRight, pointOnSheet, middle, lastLo, latitudeOf, longitudeOf, pointRules, inverseReply, globeReplyOf}
 use Rattle.conic.specs.Exact.{X, Y}
 
 -- two answers never share a number and values, so that the contracts fix the answer (Answers)
-abbrev pub DistinctReplies : Type 0
-DistinctReplies = (a b : MapAnswer) → replyOf a ≡ replyOf b → a ≡ b
+abbrev pub DistinctMapReplies : Type 0
+DistinctMapReplies = (a b : MapAnswer) → mapReplyOf a ≡ mapReplyOf b → a ≡ b
+
+abbrev pub DistinctGlobeReplies : Type 0
+DistinctGlobeReplies = (a b : GlobeAnswer) → globeReplyOf a ≡ globeReplyOf b → a ≡ b
 
 -- forward answers exactly what is on a sheet that passes its checks, and that with x and y (Answered)
 abbrev pub OnSheetAnswered : Type 0
@@ -25,7 +34,7 @@ abbrev pub AnsweredOnSheet : Type 0
 AnsweredOnSheet = (s : Sheet) (latitude longitude x y : ℤ) → forwardReply s latitude longitude ≡ accepted (x ∷ y ∷ []) →
     (passesChecks s ≡ true) × (onSheet s latitude longitude ≡ true) × (x ≡ xOf s latitude longitude) × (y ≡ yOf s latitude longitude)
 
--- DEMAND 3, FIRST SENTENCE. On every sheet that passes the checks every position is answered, and is less than 3 units from Snyder's exact value (Accuracy)
+-- DEMAND 3, FIRST SENTENCE. On every sheet that passes the checks every position on it is answered, and is less than 3 units from Snyder's exact value (Accuracy)
 abbrev pub LessThanThreeUnitsOff : Type 0
 LessThanThreeUnitsOff = (s : Sheet) (latitude longitude : ℤ) → passesChecks s ≡ true → onSheet s latitude longitude ≡ true →
     let x = xOf s latitude longitude in
@@ -40,3 +49,61 @@ Mirror = (s : Sheet) (latitude longitude x y : ℤ) → forwardReply s latitude 
 -- longitudes -180,000,000 and 180,000,000 are the same meridian, on every sheet (Mirrored)
 abbrev pub SameMeridian : Type 0
 SameMeridian = (s : Sheet) (latitude : ℤ) → forwardReply s latitude (negℤ (pos 180000000)) ≡ forwardReply s latitude (pos 180000000)
+
+-- r is document 01's root of x² + v², for a point in range and below the cone's apex (Distance)
+abbrev pub RadiusIsRoot : Type 0
+RadiusIsRoot = (s : Sheet) (x y : ℤ) → passesChecks s ≡ true → pointInRange x y ≡ true →
+    let v = vOf s y in
+    pos 0 <ℤ v → Root (x *ℤ x +ℤ v *ℤ v) (radiusAt x v)
+
+-- the halving is the document's loop: it ends where hi - lo ≤ 1, and goes on else with mid in place of lo or of hi (Halving)
+abbrev pub LastLoEnds : Type 0
+LastLoEnds = (n x v lo hi : ℤ) → (hi -ℤ lo) ≤ℤ pos 1 → lastLo n x v lo hi ≡ lo
+
+abbrev pub LastLoGoesOn : Type 0
+LastLoGoesOn = (n x v lo hi : ℤ) → pos 1 <ℤ (hi -ℤ lo) →
+    let mid = middle lo hi in
+    lastLo n x v lo hi ≡ cond (notLeft n x v mid) (lastLo n x v mid hi) (lastLo n x v lo mid)
+
+-- a point that does not lie left of lo nor right of hi does not lie left of the last lo, d, nor right of d + 1 (Halving)
+abbrev pub LastLoBetween : Type 0
+LastLoBetween = (n x v lo hi : ℤ) → lo <ℤ hi → notLeft n x v lo ≡ true → notRight n x v hi ≡ true →
+    let d = lastLo n x v lo hi in
+    (lo ≤ℤ d) × (d <ℤ hi) × (notLeft n x v d ≡ true) × (notRight n x v (d +ℤ pos 1) ≡ true)
+
+-- the position of a map point that no other refusal meets is always on the sheet (OwnSheet)
+abbrev pub OnItsOwnSheet : Type 0
+OnItsOwnSheet = (s : Sheet) (x y : ℤ) → passesChecks s ≡ true → pointOnSheet s x (vOf s y) ≡ true →
+    onSheet s (latitudeOf s x y) (longitudeOf s x y) ≡ true
+
+-- so the answer is the same without the test of it, and 15 never comes back (OwnSheet)
+abbrev pub NoTestNeeded : Type 0
+NoTestNeeded = (s : Sheet) (x y : ℤ) →
+    inverseReply s x y ≡ inOrder 2 (sheetRules s ++ pointRules s x y) (accepted (latitudeOf s x y ∷ longitudeOf s x y ∷ []))
+
+abbrev pub NeverFifteen : Type 0
+NeverFifteen = (s : Sheet) (x y : ℤ) → inverseReply s x y .number ≡ 15 → ⊥
+
+-- inverse answers exactly the points in range that are on a sheet that passes its checks, and those with latitude and longitude (OwnSheet)
+abbrev pub PointAnswered : Type 0
+PointAnswered = (s : Sheet) (x y : ℤ) → passesChecks s ≡ true → pointInRange x y ≡ true → pointOnSheet s x (vOf s y) ≡ true →
+    inverseReply s x y ≡ accepted (latitudeOf s x y ∷ longitudeOf s x y ∷ [])
+
+abbrev pub NotRefusedOnSheet : Type 0
+NotRefusedOnSheet = (s : Sheet) (x y : ℤ) → inverseReply s x y .number ≡ 0 →
+    (passesChecks s ≡ true) × (pointInRange x y ≡ true) × (pointOnSheet s x (vOf s y) ≡ true)
+
+-- DEMAND 3, SECOND SENTENCE. Every map point that is not refused is answered with a position on the sheet that projects back within 16 units: forward does not refuse it,
+-- its x and its y are at most 16 from the point's, each, and so is the distance, whose square is at most 256 (BackAndForth)
+abbrev pub BackWithinSixteenUnits : Type 0
+BackWithinSixteenUnits = (s : Sheet) (x y : ℤ) → inverseReply s x y .number ≡ 0 →
+    let latitude = latitudeOf s x y in
+    let longitude = longitudeOf s x y in
+    let x′ = xOf s latitude longitude in
+    let y′ = yOf s latitude longitude in
+    (inverseReply s x y ≡ accepted (latitude ∷ longitude ∷ []))
+    × (onSheet s latitude longitude ≡ true)
+    × (forwardReply s latitude longitude ≡ accepted (x′ ∷ y′ ∷ []))
+    × Size (pos 16) (x′ -ℤ x)
+    × Size (pos 16) (y′ -ℤ y)
+    × (((x′ -ℤ x) *ℤ (x′ -ℤ x) +ℤ (y′ -ℤ y) *ℤ (y′ -ℤ y)) ≤ℤ pos 256)

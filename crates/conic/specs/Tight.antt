@@ -1,8 +1,12 @@
--- How tight demand 3's first sentence is: a position 4 units off is ruled out, 1 unit for 3 would be false, and flooring is left to the mirror. All are proved in proofs/, by computation (Tightness).
+-- How tight demand 3 is. Of its first sentence: a position 4 units off is ruled out, 1 unit for 3 would be false, and flooring is left to the mirror. Of its second: 0 or 1 units for 16 would be false.
+-- All are proved in proofs/, by computation (Tightness).
 use mathlib.Core.Bool.{true}
+use mathlib.Core.List.{[], _∷_}
 use mathlib.Core.Path.{_≡_}
 use lib.IntN.{ℤ, pos, negℤ, _+ℤ_, _-ℤ_, _*ℤ_}
 use lib.Signed.{shrZ}
+use Rattle.arith.specs.Bounds.{Size}
+use Rattle.refusal.specs.Numbers.{accepted}
 use Rattle.trig.specs.Trig.{sineOf}
 use Rattle.trig.specs.Exact.{Fraction, Near}
 use Rattle.sheet.specs.declared.Sheet.{Sheet}
@@ -10,6 +14,7 @@ use Rattle.sheet.specs.Sheets.{passesChecks, onSheet}
 use Rattle.sheet.specs.Laws.{mirrored}
 use Rattle.sheet.specs.Samples.{sheetA}
 use Rattle.conic.specs.Conic.{rOf, tOf, xOf, yOf}
+use Rattle.conic.specs.MapToGlobe.{latitudeOf, longitudeOf, inverseReply}
 use Rattle.conic.specs.Exact.{X, Y}
 
 -- a sheet whose cone has its apex far off: along the parallel of 13 degrees, with the nearest whole numbers to Snyder's constants
@@ -59,3 +64,11 @@ FloorBreaksMirror =
     let west = negℤ (pos 50000000) in
     let floored = shrZ (rOf sheetA latitude *ℤ sineOf (tOf sheetA west)) 1073741824 in
     (mirrored sheetA east ≡ west) × (floored ≡ negℤ (xOf sheetA latitude east) -ℤ pos 1) × Near 3 floored (X sheetA latitude west)
+
+-- From map to globe and forth again is not always exact, nor always within 1 unit: on sheet A this point comes back 2 units further left and 1 further up
+abbrev pub OneUnitBackIsFalse : Type 0
+OneUnitBackIsFalse =
+    let x = pos 19198242 in
+    let y = negℤ (pos 7070257) in
+    let off = xOf sheetA (latitudeOf sheetA x y) (longitudeOf sheetA x y) -ℤ x in
+    (inverseReply sheetA x y ≡ accepted (pos 21210162 ∷ pos 30473236 ∷ [])) × (Size (pos 0) off → ⊥) × (Size (pos 1) off → ⊥)

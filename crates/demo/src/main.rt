@@ -1,5 +1,6 @@
-// Runs the engine on the worked examples of document 01, cases 1 to 10 (of 7 the way to the map), and just outside the steps'
-// ranges: a line for each, its input, and its values or refusal.
+// Runs the engine on the worked examples of document 01, cases 1 to 10, and just outside the ranges and the
+// sheet: a line for each, its input, and its values or refusal.
+use conic::GlobeAnswer;
 use conic::MapAnswer;
 use libc::STDOUT_FILENO;
 use refusal::Refusal;
@@ -25,10 +26,15 @@ fn main() {
     show(b"root", 0, trig::root(0));
     let a = sheet_a(60000000, 536870912);
     show_forward(a, 31000000, 10000000);
+    show_inverse(a, 0, 1000000);
     show_forward(a, 30000000, 70000000);
     show_forward(a, 30000000, -50000000);
     show_forward(a, 30000000, 70000001);
     show_forward(a, 90000001, 70000000);
+    show_inverse(a, 49619600, 13295532);
+    show_inverse(a, 49619601, 13295532);
+    show_inverse(a, 0, 99239201);
+    show_inverse(a, 536870913, 0);
     show_check(b"half-width", 60000001, sheet_a(60000001, 536870912));
     show_check(b"cone constant", 536870922, sheet_a(60000000, 536870922));
     show_check(b"cone constant", 536870944, sheet_a(60000000, 536870944));
@@ -57,16 +63,39 @@ fn show_forward(sheet: Sheet, latitude: i64, longitude: i64) {
     let answer = conic::forward(sheet, latitude, longitude);
     match answer {
         MapAnswer::Point { x, y } => {
-            io::write_all(STDOUT_FILENO, b" ");
-            print(x);
-            io::write_all(STDOUT_FILENO, b" ");
-            print(y);
-            io::write_all(STDOUT_FILENO, b"\n");
+            show_pair(x, y);
         }
         MapAnswer::Refused(r) => {
             show_refusal(r);
         }
     }
+}
+
+fn show_inverse(sheet: Sheet, x: i64, y: i64) {
+    io::write_all(STDOUT_FILENO, b"inverse ");
+    print(x);
+    io::write_all(STDOUT_FILENO, b" ");
+    print(y);
+    let answer = conic::inverse(sheet, x, y);
+    match answer {
+        GlobeAnswer::Position {
+            latitude,
+            longitude,
+        } => {
+            show_pair(latitude, longitude);
+        }
+        GlobeAnswer::Refused(r) => {
+            show_refusal(r);
+        }
+    }
+}
+
+fn show_pair(a: i64, b: i64) {
+    io::write_all(STDOUT_FILENO, b" ");
+    print(a);
+    io::write_all(STDOUT_FILENO, b" ");
+    print(b);
+    io::write_all(STDOUT_FILENO, b"\n");
 }
 
 // A sheet that differs from sheet A in one number: the number's name and value, and what check answers.

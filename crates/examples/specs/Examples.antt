@@ -8,6 +8,7 @@ use Rattle.trig.specs.Trig.{ONE, angleReply, sineReply, cosineReply, rootReply}
 use Rattle.sheet.specs.Sheets.{checkReply}
 use Rattle.sheet.specs.Samples.{sheetA, sheetAWith}
 use Rattle.conic.specs.Conic.{forwardReply}
+use Rattle.conic.specs.MapToGlobe.{inverseReply}
 
 -- a case's number in the document, what the definitions give, and what the document says: the number of a refusal or 0, and the values
 pub record Case : Type 0 where
@@ -32,6 +33,7 @@ cases =
     ∷ case 6 (rootReply (pos 2)) 0 (pos 1 ∷ [])
     ∷ case 6 (rootReply (pos 3)) 0 (pos 2 ∷ [])
     ∷ case 7 (forwardReply sheetA (pos 31000000) (pos 10000000)) 0 (pos 0 ∷ pos 1000000 ∷ [])
+    ∷ case 7 (inverseReply sheetA (pos 0) (pos 1000000)) 0 (pos 31000000 ∷ pos 10000000 ∷ [])
     ∷ case 8 (forwardReply sheetA (pos 30000000) (pos 70000000)) 0 (pos 49619600 ∷ pos 13295532 ∷ [])
     ∷ case 9 (forwardReply sheetA (pos 30000000) (pos 70000001)) 11 (pos 0 ∷ pos 0 ∷ [])
     ∷ case 9 (forwardReply sheetA (pos 90000001) (pos 70000000)) 12 (pos 0 ∷ pos 0 ∷ [])

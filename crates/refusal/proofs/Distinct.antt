@@ -44,7 +44,7 @@ no-number-zero r e = let cut : Cut ≡ r = rw e at (found r) in let k = ap numbe
 
 -- ---- of replies
 
-number-of : {p q : Reply} → p ≡ q → p .number ≡ q .number
+pub number-of : {p q : Reply} → p ≡ q → p .number ≡ q .number
 number-of = ap (λ (x : Reply). x .number)
 
 pub same-refusal : (j k : ℕ) (r s : Refusal) → refused j r ≡ refused k s → r ≡ s

@@ -1,20 +1,19 @@
 -- What an answer by rules in order tells. Assumes nothing.
 use mathlib.Core.Bool.{Bool, true, false, cond}
 use mathlib.Core.Path.{_≡_, refl, ap, sym}
-use mathlib.Core.List.{List, [], _∷_, _++_}
+use mathlib.Core.List.{[], _∷_, _++_}
 use mathlib.Mathlib.Data.Bool.Basic.{and-elim-left, and-elim-right}
 use Prim.Native.Nat.{ℕ}
-use lib.IntN.{ℤ}
 use Rattle.refusal.specs.declared.Refusal.{Refusal}
 use Rattle.refusal.specs.Numbers.{Reply, accepted, refused}
 use Rattle.refusal.specs.Rules.{allHold}
-use Rattle.refusal.specs.Laws.{AcceptedAllHold, OthersDecide, RefusedFirst, BothHold, AgreeBehind}
-use Rattle.refusal.proofs.Distinct.{same-refusal, accepted-or-refused}
+use Rattle.refusal.specs.Laws.{AcceptedAllHold, NotRefusedAllHold, OthersDecide, RefusedFirst, BothHold, AgreeBehind}
+use Rattle.refusal.proofs.Distinct.{no-number-zero, number-of, same-refusal, accepted-or-refused}
 
--- one rule: an acceptance goes past it, a refusal is its own or goes past it
-accepted-past : (holds : Bool) (k : ℕ) (us : List ℤ) (q : Refusal) (reply : Reply) → accepted us ≡ cond holds reply (refused k q) → (holds ≡ true) × (accepted us ≡ reply)
-accepted-past true k us q reply e = (refl, e)
-accepted-past false k us q reply e = absurd (accepted-or-refused us k q e)
+-- one rule: the number 0 goes past it, a refusal is its own or goes past it
+zero-past : (holds : Bool) (k : ℕ) (q : Refusal) (reply : Reply) → cond holds reply (refused k q) .number ≡ 0 → (holds ≡ true) × (reply .number ≡ 0)
+zero-past true k q reply e = (refl, e)
+zero-past false k q reply e = absurd (no-number-zero q e)
 
 refused-past : (holds : Bool) (j k : ℕ) (r q : Refusal) (p reply : Reply) → (refused j r ≡ p → refused k r ≡ reply) →
     refused j r ≡ cond holds p (refused j q) → refused k r ≡ cond holds reply (refused k q)
@@ -25,9 +24,12 @@ agree-past : (holds : Bool) (p q reply : Reply) → (holds ≡ true → p ≡ q)
 agree-past true p q reply f = f refl
 agree-past false p q reply f = refl
 
+pub not-refused-all-hold : NotRefusedAllHold
+not-refused-all-hold k [] reply e = refl
+not-refused-all-hold k (rule ∷ rules) reply e = let p = zero-past (rule .holds) k (rule .refusal) _ e in rw (p .0) (not-refused-all-hold k rules reply (p .1))
+
 pub accepted-all-hold : AcceptedAllHold
-accepted-all-hold k [] us vs e = refl
-accepted-all-hold k (rule ∷ rules) us vs e = let p = accepted-past (rule .holds) k us (rule .refusal) _ e in rw (p .0) (accepted-all-hold k rules us vs (p .1))
+accepted-all-hold k rules us vs e = not-refused-all-hold k rules (accepted vs) (sym (number-of e))
 
 pub others-decide : OthersDecide
 others-decide k [] others reply e = refl

@@ -12,6 +12,10 @@ use Rattle.refusal.specs.Rules.{Rule, inOrder, allHold}
 abbrev pub AcceptedAllHold : Type 0
 AcceptedAllHold = (k : ℕ) (rules : List Rule) (us vs : List ℤ) → accepted us ≡ inOrder k rules (accepted vs) → allHold rules ≡ true
 
+-- and so where its number is 0, whatever comes back behind the rules
+abbrev pub NotRefusedAllHold : Type 0
+NotRefusedAllHold = (k : ℕ) (rules : List Rule) (reply : Reply) → inOrder k rules reply .number ≡ 0 → allHold rules ≡ true
+
 -- where all the rules hold, the others decide
 abbrev pub OthersDecide : Type 0
 OthersDecide = (k : ℕ) (rules others : List Rule) (reply : Reply) → allHold rules ≡ true → inOrder k (rules ++ others) reply ≡ inOrder k others reply

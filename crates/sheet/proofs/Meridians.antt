@@ -1,16 +1,17 @@
--- Longitudes -180,000,000 and 180,000,000 are the same meridian; a longitude mirrored about the central meridian has the opposite offset. Assumes nothing.
+-- Longitudes -180,000,000 and 180,000,000 are the same meridian; the longitude at an offset has that offset; a longitude mirrored about the central meridian has the opposite
+-- one. Assumes nothing.
 use mathlib.Core.Path.{_≡_}
 use mathlib.Core.Bool.{true}
 use mathlib.Core.List.{[], _∷_}
 use lib.IntN.{ℤ, pos, negsuc, negℤ, _+ℤ_, _-ℤ_, _*ℤ_}
 use lib.Signed.{_≤ℤ_, _<ℤ_}
 use Rattle.arith.proofs.Quote.{ring!, quote}
-use Rattle.arith.proofs.Parts.{linear, sub-parts, neg-parts, mul-parts}
+use Rattle.arith.proofs.Parts.{linear, add-parts, sub-parts, neg-parts, mul-parts}
 use Rattle.arith.proofs.Cert.{eq-by, _⊛_, _⊹_}
 use Rattle.arith.proofs.Size.{size-neg}
 use Rattle.sheet.specs.declared.Sheet.{Sheet}
 use Rattle.sheet.specs.Sheets.{m0, w, withinLimits, shifted, offsetOf, onSheet}
-use Rattle.sheet.specs.Laws.{InLimits, IsOnSheet, SameMeridian, mirrored, MirroredOffset}
+use Rattle.sheet.specs.Laws.{InLimits, IsOnSheet, SameMeridian, LongitudeAtOffset, mirrored, MirroredOffset}
 use Rattle.sheet.proofs.Limits.{limits-hold}
 use Rattle.sheet.proofs.Shifted.{half, shifted-range, shifted-turns, shifted-only}
 use Rattle.sheet.proofs.Positions.{on-sheet-holds, holds-on-sheet}
@@ -32,6 +33,23 @@ same-offset s e =
 pub same-meridian : SameMeridian
 unfolding onSheet
 same-meridian s latitude e = (same-offset s e, rw (same-offset s e))
+
+-- d lies in the range of offsets, and differs from that longitude less m0 by whole turns
+pub longitude-at-offset : LongitudeAtOffset
+unfolding offsetOf
+longitude-at-offset s d e h =
+    let l = limits-hold s e in
+    let m = m0 s in
+    let u = shifted (m +ℤ d) in
+    let sum-parts = add-parts m d in
+    let r = shifted-range (m +ℤ d) (omega linear) (omega linear) in
+    let t = shifted-turns (m +ℤ d) in
+    let parts = sub-parts u m in (
+      r .0,
+      r .1,
+      shifted-only (u -ℤ m) d (negℤ (t .0)) (omega linear) (omega linear) (omega linear) (omega linear)
+          (eq-by (negsuc 0 ⊛ t .1) (ring! (m ∷ d ∷ u ∷ t .0 ∷ []) (search quote depth 40) tt)),
+    )
 
 module _ (s : Sheet) (latitude longitude : ℤ) (e : withinLimits s ≡ true) (o : onSheet s latitude longitude ≡ true) where
   limits : InLimits s

@@ -1,14 +1,20 @@
 -- The laws of sheets that the other crates go by. Each is proved in proofs/, in the file that its comment names.
 use mathlib.Core.Bool.{true}
 use mathlib.Core.Path.{_≡_}
+use mathlib.Core.Logic.{_⊎_}
+use mathlib.Core.List.{List, _++_}
+use Prim.Native.Nat.{ℕ}
 use lib.IntN.{ℤ, pos, negℤ, _+ℤ_, _-ℤ_, _*ℤ_}
 use lib.Signed.{_≤ℤ_, _<ℤ_}
 use Rattle.arith.specs.Bounds.{Within, Size}
+use Rattle.refusal.specs.declared.Refusal.the-variants.{SheetLimit, SheetConstants}
+use Rattle.refusal.specs.Numbers.{Reply, refused}
+use Rattle.refusal.specs.Rules.{Rule, inOrder}
 use Rattle.trig.specs.Trig.{ONE, angleOf}
 use Rattle.sheet.specs.declared.Sheet.{Sheet}
 use Rattle.sheet.specs.declared.Verdict.{Verdict}
 use Rattle.sheet.specs.declared.Verdict.the-variants.{Good}
-use Rattle.sheet.specs.Sheets.{f1, f2, f0, m0, fs, fn, w, n, g, withinLimits, coneAngleOf, passesChecks, checkReply, replyOf, shifted, offsetOf, onSheet}
+use Rattle.sheet.specs.Sheets.{f1, f2, f0, m0, fs, fn, w, n, g, withinLimits, coneAngleOf, sheetRules, passesChecks, checkReply, replyOf, shifted, offsetOf, onSheet}
 
 -- two verdicts never share a number, so that the contract fixes the verdict (Answers)
 abbrev pub DistinctReplies : Type 0
@@ -20,6 +26,12 @@ GoodPasses = (s : Sheet) → replyOf Good ≡ checkReply s → passesChecks s �
 
 abbrev pub PassesGood : Type 0
 PassesGood = (s : Sheet) → passesChecks s ≡ true → checkReply s ≡ replyOf Good
+
+-- with other rules behind them, the checks refuse with 4 or with 5, or the others decide (Answers)
+abbrev pub ChecksFirst : Type 0
+ChecksFirst = (s : Sheet) (k : ℕ) (others : List Rule) (reply : Reply) →
+    let answer = inOrder k (sheetRules s ++ others) reply in
+    (answer ≡ refused k SheetLimit) ⊎ (answer ≡ refused k SheetConstants) ⊎ (answer ≡ inOrder k others reply)
 
 -- the limits as orders of whole numbers, and back; a sheet that passes its checks is within them (Limits)
 pub record InLimits (s : Sheet) : Type 0 where
@@ -54,7 +66,7 @@ PassesLimits = (s : Sheet) → passesChecks s ≡ true → withinLimits s ≡ tr
 abbrev pub RadiusSize : Type 0
 RadiusSize = (s : Sheet) (f : ℤ) → InLimits s → Within (fs s) (fn s) f → Size (pos 268435456) (g s -ℤ f)
 
--- what is shifted lies in -180,000,000 ≤ d < 180,000,000: a difference of two longitudes is up to 360,000,000, and 2 m0 less a longitude, as the mirror has it, up to 540,000,000 (Shifted)
+-- what is shifted lies in -180,000,000 ≤ d < 180,000,000: a difference of two longitudes is up to 360,000,000 in size, m0 + d up to 240,000,000, and 2 m0 less a longitude, as the mirror has it, up to 540,000,000 (Shifted)
 abbrev pub ShiftedRange : Type 0
 ShiftedRange = (a : ℤ) → negℤ (pos 540000000) ≤ℤ a → a <ℤ pos 540000000 → (negℤ (pos 180000000) ≤ℤ shifted a) × (shifted a <ℤ pos 180000000)
 
@@ -91,6 +103,12 @@ SameMeridian = (s : Sheet) (latitude : ℤ) → withinLimits s ≡ true →
     let east = pos 180000000 in
     (offsetOf s west ≡ offsetOf s east) × (onSheet s latitude west ≡ onSheet s latitude east)
 
+-- the longitude at an offset from the central meridian, m0 + d shifted, lies in -180,000,000 up to, not including, 180,000,000, and has that offset (Meridians)
+abbrev pub LongitudeAtOffset : Type 0
+LongitudeAtOffset = (s : Sheet) (d : ℤ) → withinLimits s ≡ true → Size (pos 60000000) d →
+    let longitude = shifted (m0 s +ℤ d) in
+    (negℤ (pos 180000000) ≤ℤ longitude) × (longitude <ℤ pos 180000000) × (offsetOf s longitude ≡ d)
+
 -- the longitude that is the mirror of another about the central meridian, and that it is so on the sheet (Meridians)
 unfoldable pub mirrored : Sheet → ℤ → ℤ
 mirrored s longitude = shifted (pos 2 *ℤ m0 s -ℤ longitude)
@@ -106,3 +124,7 @@ ConeAngleOdd = (n a : ℤ) → coneAngleOf n (negℤ a) ≡ negℤ (coneAngleOf 
 -- an angle on the cone is no larger than that on the globe (ConeAngles)
 abbrev pub ConeAngleSize : Type 0
 ConeAngleSize = (n m a : ℤ) → Size ONE n → Size m a → Size (angleOf m) (coneAngleOf n a)
+
+-- where 0 ≤ n ≤ ONE, it changes by at most 19 from an offset to the next (ConeAngles)
+abbrev pub ConeAngleStep : Type 0
+ConeAngleStep = (n d : ℤ) → Within (pos 0) ONE n → Size (pos 19) (coneAngleOf n (d +ℤ pos 1) -ℤ coneAngleOf n d)

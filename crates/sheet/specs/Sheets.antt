@@ -54,7 +54,7 @@ withinLimits s =
     && (leZ (negℤ (pos 180000000)) (m0 s) && ltZ (m0 s) (pos 180000000) && leZ (pos 1) (w s) && leZ (w s) (pos 60000000))
     && (leZ (pos 134217728) (n s) && leZ (n s) ONE && leZ (pos 1000000) (g s -ℤ fn s) && leZ (g s -ℤ fs s) (pos 268435456))
 
--- the quotient n × angle(a) / ONE: the checks take it of f2 - f1 and g - f1, globe to map of d, where it is the angle on the cone
+-- the quotient n × angle(a) / ONE: the checks take it of f2 - f1 and g - f1, globe to map of d, map to globe of the edges and of each mid, where it is the angle on the cone
 unfoldable pub coneAngleOf : (n a : ℤ) → ℤ
 coneAngleOf n a = quotZ (n *ℤ angleOf a) ONE
 

@@ -134,7 +134,8 @@ pub fn cone_angle_unchecked(n: u32, a: i64) -> i64
     n as i64 * trig::angle_unchecked(a) / ONE
 }
 
-// A difference of two longitudes, shifted once by 360 degrees where it is not from -180 up to, not including, 180 degrees.
+// A difference of two longitudes, or a longitude plus an offset, shifted once by 360 degrees where it is not from -180 up to, not
+// including, 180 degrees.
 pub fn shift(a: i64) -> i64
     ensures { λ r. ⌜ r ≡ shifted a ⌝ }
 {

@@ -6,5 +6,6 @@ pub mod Roots
 pub mod Row
 pub mod NearAngle
 pub mod Circle
+pub mod Spread
 pub mod PowerSeries
 pub mod ExactErrors

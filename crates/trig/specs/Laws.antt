@@ -2,7 +2,8 @@
 use mathlib.Core.Path.{_≡_}
 use Prim.Native.Nat.{ℕ, _+_, _*_, _/_, _^_, _≤_, _<_}
 use lib.IntN.{ℤ, pos, negℤ, natAbs, _+ℤ_, _-ℤ_, _*ℤ_}
-use Rattle.arith.specs.Bounds.{Size}
+use lib.Signed.{_≤ℤ_}
+use Rattle.arith.specs.Bounds.{Within, Size}
 use Rattle.trig.specs.declared.Answer.{Answer}
 use Rattle.trig.specs.Trig.{ONE, angleFactor, angleOf, sineOf, cosineOf, Root, rootBelow, rootOf, sineLimit, rootLimit, replyOf}
 
@@ -38,6 +39,19 @@ CosineSize = (t : ℤ) → Size (pos sineLimit) t → Size ONE (cosineOf t)
 abbrev pub NearCircle : Type 0
 NearCircle = (t : ℤ) → Size (angleOf (pos 60000000)) t →
     Size (pos 49 *ℤ ONE) (pos 5 *ℤ (sineOf t *ℤ sineOf t +ℤ cosineOf t *ℤ cosineOf t -ℤ ONE *ℤ ONE))
+
+-- angle goes up by 0 to 19 from a to a + 1 (Spread)
+abbrev pub AngleStep : Type 0
+AngleStep = (a : ℤ) → Within (pos 0) (pos 19) (angleOf (a +ℤ pos 1) -ℤ angleOf a)
+
+-- cosine(t) ≥ 0.4 ONE for |t| up to angle(60,000,000) (Spread)
+abbrev pub CosineLeast : Type 0
+CosineLeast = (t : ℤ) → Size (angleOf (pos 60000000)) t → (pos 2 *ℤ ONE) ≤ℤ (pos 5 *ℤ cosineOf t)
+
+-- for t and t' of size up to angle(60,000,000) that differ by at most 19, their sines differ by at most 30 and their cosines by at most 26 (Spread)
+abbrev pub NearbyAngles : Type 0
+NearbyAngles = (t t' : ℤ) → Size (angleOf (pos 60000000)) t → Size (angleOf (pos 60000000)) t' → Size (pos 19) (t' -ℤ t) →
+    Size (pos 30) (sineOf t' -ℤ sineOf t) × Size (pos 26) (cosineOf t' -ℤ cosineOf t)
 
 -- the root from below (Roots)
 abbrev pub IsRootBelow : Type 0

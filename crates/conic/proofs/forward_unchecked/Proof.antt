@@ -4,7 +4,7 @@ use mathlib.Core.Bool.{_&&_}
 use borrow.Author.Needs.{needs}
 use mir.Facts.{toZ-ofZ}
 use Rattle.sheet.specs.Sheets.{onSheet}
-use Rattle.conic.specs.Conic.{inRange, replyOf}
+use Rattle.conic.specs.Conic.{inRange, mapReplyOf}
 use Rattle.conic.proofs.Answered.{on-sheet-answered, refused-off-sheet, refused-out-of-range}
 use Rattle.conic.proofs.forward_unchecked.Statement.{statement}
 use Rattle.conic.proofs.forward_unchecked.Tie as tie
@@ -29,8 +29,8 @@ on-sheet-is c =
     let s = c .before .before .before .before in
     rw (toZ-ofZ (s .fits .latitude), toZ-ofZ (s .fits .longitude)) at (c .on-sheet .ensures)
 
-position-requires : tie.Need-position-requires
-position-requires c κs =
+point-of-requires : tie.Need-point-of-requires
+point-of-requires c κs =
     let s = c .before .before .before .before .before in
     (s .pre, rw (toZ-ofZ (s .fits .latitude), toZ-ofZ (s .fits .longitude)) (sym (on-sheet-is (c .before)) ∙ c .if2 .taken))
 
@@ -38,7 +38,7 @@ returns : tie.Need-returns
 returns c =
     let s = c .before .before .before .before .before .before in
     let o = sym (on-sheet-is (c .before .before)) ∙ c .before .if2 .taken in
-    ap replyOf (rw (toZ-ofZ (s .fits .latitude), toZ-ofZ (s .fits .longitude)) at (c .position .ensures))
+    ap mapReplyOf (rw (toZ-ofZ (s .fits .latitude), toZ-ofZ (s .fits .longitude)) at (c .point-of .ensures))
     ∙ sym (on-sheet-answered (s .args .sheet) (s .args .latitude) (s .args .longitude) (s .pre) o)
 
 returns-2 : tie.Need-returns-2
@@ -59,7 +59,7 @@ forward-unchecked-spec =
     size-up-to-requires
     size-up-to-requires-2
     on-sheet-requires
-    position-requires
+    point-of-requires
     returns
     returns-2
     returns-3)

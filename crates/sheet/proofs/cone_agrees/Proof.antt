@@ -6,7 +6,7 @@ use mir.Syntax.{w64}
 use mir.Val.{toZ, ofZ}
 use mir.Facts.{toZ-ofZ}
 use Rattle.arith.specs.Bounds.{sizeUpTo}
-use Rattle.arith.proofs.Fits.{Range, fits, plain, inside-of, within, nat-bits, back, r-bits, r-sub}
+use Rattle.arith.proofs.Fits.{Range, fits, plain, inside-of, within, nat-bits, back, r-bits, r-sub, bounded}
 use Rattle.trig.specs.Trig.{angleOf}
 use Rattle.sheet.specs.Sheets.{coneAgrees}
 use Rattle.sheet.proofs.Angles.{parallel-angle-size, sine-range, cosine-range, cone-range}
@@ -35,7 +35,7 @@ sub-fall c = fits (fall c) tt
 -- f2 - f1, as the code has it
 abbrev apart : (c : tie.After-cosine-at2) →
     let s = c .before .before .before in Range (toZ w64 (ofZ w64 (s .args .f2)) -ℤ toZ w64 (ofZ w64 (s .args .f1)))
-apart c = let s = c .before .before .before in r-sub (r-bits w64 (within (s .pre .1 .1))) (r-bits w64 (within (s .pre .1 .0)))
+apart c = let s = c .before .before .before in r-sub (bounded w64 (s .pre .1 .1)) (bounded w64 (s .pre .1 .0))
 
 sub-cone-angle-unchecked : tie.Need-sub-cone-angle-unchecked
 sub-cone-angle-unchecked c = fits (apart c) tt
@@ -57,7 +57,7 @@ size-up-to-requires : tie.Need-size-up-to-requires
 size-up-to-requires c κs = search needs
 
 angle-unchecked-requires : tie.Need-angle-unchecked-requires
-angle-unchecked-requires c κs = inside-of (r-bits w64 (within (c .before .pre .1 .0))) tt
+angle-unchecked-requires c κs = inside-of (bounded w64 (c .before .pre .1 .0)) tt
 
 angled : (c : tie.After-angle-unchecked) → c .angle-unchecked .result ≡ angleOf (c .before .before .args .f1)
 angled c = rw (toZ-ofZ (c .before .before .fits .f1)) at (c .angle-unchecked .ensures)

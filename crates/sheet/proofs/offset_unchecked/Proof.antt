@@ -4,7 +4,7 @@ use borrow.Author.Needs.{needs}
 use lib.IntN.{_-ℤ_}
 use mir.Syntax.{w32, w64}
 use mir.Val.{toZ, ofZ}
-use Rattle.arith.proofs.Fits.{Range, fits, plain, param, within, back, r-bits, r-sub}
+use Rattle.arith.proofs.Fits.{Range, fits, plain, param, back, r-bits, r-sub, bounded}
 use Rattle.sheet.specs.Sheets.{m0, shifted, offsetOf}
 use Rattle.sheet.proofs.Fields.{Typed, typed, wide}
 use Rattle.sheet.proofs.offset_unchecked.Statement.{statement}
@@ -16,7 +16,7 @@ told c = typed (c .struct-told .given)
 -- the longitude less m0, as the code has it
 abbrev plain-offset : (c : tie.After-struct-told) →
     Range (toZ w64 (ofZ w64 (c .before .before .args .longitude)) -ℤ toZ w64 (ofZ w64 (toZ w32 (ofZ w32 (m0 (c .before .before .args .sheet))))))
-plain-offset c = r-sub (r-bits w64 (within (c .before .before .pre))) (wide (told c .m0))
+plain-offset c = r-sub (bounded w64 (c .before .before .pre)) (wide (told c .m0))
 
 cast-shift : tie.Need-cast-shift
 cast-shift c = fits (param (told c .m0)) tt

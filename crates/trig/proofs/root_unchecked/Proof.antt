@@ -8,14 +8,14 @@ use mir.Syntax.{w64}
 use mir.Facts.{toZ-ofZ, toZ-pos}
 use Rattle.arith.proofs.Parts.{linear}
 use Rattle.arith.proofs.Order.{abs-parts}
-use Rattle.arith.proofs.Fits.{fits, within, nat, r-bits, cast-fits}
+use Rattle.arith.proofs.Fits.{fits, nat, cast-fits, bounded}
 use Rattle.trig.specs.Trig.{rootBelow, rounded, rootOf}
 use Rattle.trig.proofs.Roots.{below-most}
 use Rattle.trig.proofs.root_unchecked.Statement.{statement}
 use Rattle.trig.proofs.root_unchecked.Tie as tie
 
 cast-root-below : tie.Need-cast-root-below
-cast-root-below c = cast-fits (r-bits w64 (within (c .pre))) tt
+cast-root-below c = cast-fits (bounded w64 (c .pre)) tt
 
 q-most : (c : tie.Start) → natAbs (c .args .q) ≤ 2 ^ 60
 q-most c = omega (linear, c .pre .low, c .pre .high, abs-parts (c .args .q))

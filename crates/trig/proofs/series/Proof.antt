@@ -12,7 +12,7 @@ use mir.Syntax.{w64}
 use mir.Val.{toZ, ofZ}
 use mir.Facts.{toZ-ofZ}
 use Rattle.arith.proofs.Quote.{ring!, quote}
-use Rattle.arith.proofs.Fits.{Range, fits, plain, within, via, lit, nat, nat-bits, r-bits, r-sub, r-mul}
+use Rattle.arith.proofs.Fits.{Range, fits, plain, within, via, lit, nat, nat-bits, r-bits, r-sub, r-mul, bounded}
 use Rattle.trig.specs.Trig.{ONE, seriesOf}
 use Rattle.trig.proofs.Sizes.{series-size, factor-at}
 use Rattle.trig.proofs.series.Statement.{statement}
@@ -60,7 +60,7 @@ module _ (c : tie.In-loop Inv-loop μ-loop) where
   abbrev product-range : Range (toZ w64 (ofZ w64 z) *ℤ toZ w64 (c .before .loop .p))
   product-range =
       let e : suc k ≡ c .before .loop .k = omega arith in
-      r-mul (r-bits w64 (within (start .pre .1))) (via (rw e (p-is (c .before))) (value-range (suc k)))
+      r-mul (bounded w64 (start .pre .1)) (via (rw e (p-is (c .before))) (value-range (suc k)))
 
   -- the quotient as the code has it
   abbrev quotient : ℤ

@@ -1,4 +1,4 @@
--- `conic::point` meets its contract. Assumes nothing.
+-- `conic::point_at` meets its contract. Assumes nothing.
 use mathlib.Core.Path.{ap₂}
 use borrow.Author.Needs.{needs}
 use mir.Facts.{toZ-ofZ}
@@ -6,8 +6,8 @@ use Rattle.arith.proofs.Fits.{Range, shapes, fits, div-fits, plain, within, via
 use Rattle.trig.proofs.Sizes.{sine-within, cosine-size}
 use Rattle.conic.specs.declared.MapAnswer.the-variants.{Point}
 use Rattle.conic.specs.Conic.{xAt, yAt}
-use Rattle.conic.proofs.point.Statement.{statement}
-use Rattle.conic.proofs.point.Tie as tie
+use Rattle.conic.proofs.point_at.Statement.{statement}
+use Rattle.conic.proofs.point_at.Tie as tie
 
 sine-cosine-unchecked-requires : tie.Need-sine-cosine-unchecked-requires
 sine-cosine-unchecked-requires c κs = search needs
@@ -64,5 +64,5 @@ returns c =
     let o = within (k .before .pre .0) in
     ap₂ Point (plain (search shapes depth 12) tt) (plain (search shapes depth 12) tt)
 
-pub point-spec : {M : Type 1} → statement M
-point-spec = tie.close (tie.spec sine-cosine-unchecked-requires mul-t5 div-t6 mul-t7 div-t8 sub-t9 returns)
+pub point-at-spec : {M : Type 1} → statement M
+point-at-spec = tie.close (tie.spec sine-cosine-unchecked-requires mul-t5 div-t6 mul-t7 div-t8 sub-t9 returns)

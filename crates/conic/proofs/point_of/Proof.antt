@@ -1,4 +1,4 @@
--- `conic::position` meets its contract. Assumes nothing.
+-- `conic::point_of` meets its contract. Assumes nothing.
 use mathlib.Core.Path.{_≡_, _∙_}
 use lib.IntN.{_-ℤ_}
 use lib.Signed.{leZ-yes}
@@ -7,13 +7,13 @@ use mir.Val.{toZ, ofZ}
 use mir.Facts.{toZ-ofZ}
 use Rattle.arith.proofs.Parts.{linear}
 use Rattle.arith.proofs.Size.{size-wider}
-use Rattle.arith.proofs.Fits.{Range, fits, plain, param, within, back, r-bits, r-sub}
+use Rattle.arith.proofs.Fits.{Range, fits, plain, param, back, r-bits, r-sub, bounded}
 use Rattle.sheet.specs.Sheets.{f0, g, offsetOf}
 use Rattle.sheet.proofs.Fields.{Typed, typed, wide}
 use Rattle.conic.specs.Conic.{tOf, xOf, yOf}
 use Rattle.conic.proofs.Ranges.{limits, r0-size, r-size, is-on-sheet, latitude-size, d-size, t-size}
-use Rattle.conic.proofs.position.Statement.{statement}
-use Rattle.conic.proofs.position.Tie as tie
+use Rattle.conic.proofs.point_of.Statement.{statement}
+use Rattle.conic.proofs.point_of.Tie as tie
 
 offset-unchecked-requires : tie.Need-offset-unchecked-requires
 offset-unchecked-requires c κs = rw (toZ-ofZ (c .fits .longitude)) (is-on-sheet (c .args .sheet) (c .pre .0) (c .args .latitude) (c .args .longitude) (c .pre .1) .longitude-range)
@@ -50,16 +50,16 @@ module _ (c : tie.After-struct-told2) where
   origin-radius = r-sub (wide (told c .g)) (wide (told c .f0))
 
   abbrev radius : Range (toZ w64 (ofZ w64 (toZ w32 (ofZ w32 (g (s .args .sheet))))) -ℤ toZ w64 (ofZ w64 (s .args .latitude)))
-  radius = r-sub (wide (told c .g)) (r-bits w64 (within (latitude-size (s .args .sheet) (s .pre .0) (s .args .latitude) (s .args .longitude) (s .pre .1))))
+  radius = r-sub (wide (told c .g)) (bounded w64 (latitude-size (s .args .sheet) (s .pre .0) (s .args .latitude) (s .args .longitude) (s .pre .1)))
 
-sub-point : tie.Need-sub-point
-sub-point c = fits (origin-radius c) tt
+sub-point-at : tie.Need-sub-point-at
+sub-point-at c = fits (origin-radius c) tt
 
-sub-point-2 : tie.Need-sub-point-2
-sub-point-2 c = fits (radius c) tt
+sub-point-at-2 : tie.Need-sub-point-at-2
+sub-point-at-2 c = fits (radius c) tt
 
-point-requires : tie.Need-point-requires
-point-requires c κs =
+point-at-requires : tie.Need-point-at-requires
+point-at-requires c κs =
     let s = c .before .before .before .before .before .before in
     let a = s .args in (
       rw (plain (r-bits w64 (origin-radius c)) tt) (r0-size (a .sheet) (s .pre .0)),
@@ -71,9 +71,9 @@ point-requires c κs =
 
 returns : tie.Need-returns
 unfolding xOf yOf
-returns c = rw (plain (r-bits w64 (origin-radius (c .before))) tt, plain (r-bits w64 (radius (c .before))) tt, t-is (c .before .before .before .before .before)) at (c .point .ensures)
+returns c = rw (plain (r-bits w64 (origin-radius (c .before))) tt, plain (r-bits w64 (radius (c .before))) tt, t-is (c .before .before .before .before .before)) at (c .point-at .ensures)
 
-pub position-spec : {M : Type 1} → statement M
-position-spec =
+pub point-of-spec : {M : Type 1} → statement M
+point-of-spec =
     tie.close
-    (tie.spec offset-unchecked-requires cone-angle-unchecked-requires cast-g cast-f0 sub-point sub-point-2 point-requires returns)
+    (tie.spec offset-unchecked-requires cone-angle-unchecked-requires cast-g cast-f0 sub-point-at sub-point-at-2 point-at-requires returns)
