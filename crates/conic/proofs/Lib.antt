@@ -3,12 +3,6 @@ pub mod Answers
 pub mod Ranges
 pub mod Answered
 pub mod Mirrored
-pub mod SheetAngle
-pub mod NearExact
-pub mod Accuracy
 pub mod Halving
 pub mod OwnSheet
 pub mod Distance
-pub mod Returned
-pub mod BackAndForth
-pub mod Tightness

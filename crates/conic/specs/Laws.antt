@@ -1,14 +1,12 @@
--- What holds of globe to map and of map to globe: demand 3, the mirror, and the laws that the other crates go by. Each is proved in proofs/, in the file that its comment names.
+-- What holds of globe to map and of map to globe: the mirror, and the laws that the other crates go by. Each is proved in proofs/, in the file that its comment names. Demand 3 is in `accuracy`.
 use mathlib.Core.Bool.{true, cond}
 use mathlib.Core.List.{[], _∷_, _++_}
 use mathlib.Core.Path.{_≡_}
 use lib.IntN.{ℤ, pos, negℤ, _+ℤ_, _-ℤ_, _*ℤ_}
 use lib.Signed.{_≤ℤ_, _<ℤ_}
-use Rattle.arith.specs.Bounds.{Size}
 use Rattle.refusal.specs.Numbers.{accepted}
 use Rattle.refusal.specs.Rules.{inOrder}
 use Rattle.trig.specs.Trig.{Root}
-use Rattle.trig.specs.Exact.{Near}
 use Rattle.sheet.specs.declared.Sheet.{Sheet}
 use Rattle.sheet.specs.Sheets.{passesChecks, sheetRules, onSheet}
 use Rattle.sheet.specs.Laws.{mirrored}
@@ -16,7 +14,6 @@ use Rattle.conic.specs.declared.MapAnswer.{MapAnswer}
 use Rattle.conic.specs.declared.GlobeAnswer.{GlobeAnswer}
 use Rattle.conic.specs.Conic.{xOf, yOf, forwardReply, mapReplyOf}
 use Rattle.conic.specs.MapToGlobe.{pointInRange, vOf, radiusAt, notLeft, notRight, pointOnSheet, middle, lastLo, latitudeOf, longitudeOf, pointRules, inverseReply, globeReplyOf}
-use Rattle.conic.specs.Exact.{X, Y}
 
 -- two answers never share a number and values, so that the contracts fix the answer (Answers)
 abbrev pub DistinctMapReplies : Type 0
@@ -33,13 +30,6 @@ OnSheetAnswered = (s : Sheet) (latitude longitude : ℤ) → passesChecks s ≡ 
 abbrev pub AnsweredOnSheet : Type 0
 AnsweredOnSheet = (s : Sheet) (latitude longitude x y : ℤ) → forwardReply s latitude longitude ≡ accepted (x ∷ y ∷ []) →
     (passesChecks s ≡ true) × (onSheet s latitude longitude ≡ true) × (x ≡ xOf s latitude longitude) × (y ≡ yOf s latitude longitude)
-
--- DEMAND 3, FIRST SENTENCE. On every sheet that passes the checks every position on it is answered, and is less than 3 units from Snyder's exact value (Accuracy)
-abbrev pub LessThanThreeUnitsOff : Type 0
-LessThanThreeUnitsOff = (s : Sheet) (latitude longitude : ℤ) → passesChecks s ≡ true → onSheet s latitude longitude ≡ true →
-    let x = xOf s latitude longitude in
-    let y = yOf s latitude longitude in
-    (forwardReply s latitude longitude ≡ accepted (x ∷ y ∷ [])) × Near 3 x (X s latitude longitude) × Near 3 y (Y s latitude longitude)
 
 -- THE MIRROR. Longitudes mirrored about the central meridian give -x and the same y (Mirrored)
 abbrev pub Mirror : Type 0
@@ -92,18 +82,3 @@ PointAnswered = (s : Sheet) (x y : ℤ) → passesChecks s ≡ true → pointInR
 abbrev pub NotRefusedOnSheet : Type 0
 NotRefusedOnSheet = (s : Sheet) (x y : ℤ) → inverseReply s x y .number ≡ 0 →
     (passesChecks s ≡ true) × (pointInRange x y ≡ true) × (pointOnSheet s x (vOf s y) ≡ true)
-
--- DEMAND 3, SECOND SENTENCE. Every map point that is not refused is answered with a position on the sheet that projects back within 16 units: forward does not refuse it,
--- its x and its y are at most 16 from the point's, each, and so is the distance, whose square is at most 256 (BackAndForth)
-abbrev pub BackWithinSixteenUnits : Type 0
-BackWithinSixteenUnits = (s : Sheet) (x y : ℤ) → inverseReply s x y .number ≡ 0 →
-    let latitude = latitudeOf s x y in
-    let longitude = longitudeOf s x y in
-    let x′ = xOf s latitude longitude in
-    let y′ = yOf s latitude longitude in
-    (inverseReply s x y ≡ accepted (latitude ∷ longitude ∷ []))
-    × (onSheet s latitude longitude ≡ true)
-    × (forwardReply s latitude longitude ≡ accepted (x′ ∷ y′ ∷ []))
-    × Size (pos 16) (x′ -ℤ x)
-    × Size (pos 16) (y′ -ℤ y)
-    × (((x′ -ℤ x) *ℤ (x′ -ℤ x) +ℤ (y′ -ℤ y) *ℤ (y′ -ℤ y)) ≤ℤ pos 256)

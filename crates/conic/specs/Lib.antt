@@ -1,6 +1,4 @@
--- From globe to map, from map to globe, the exact value that demand 3 holds the first against, what holds of them, and how tight it is.
+-- From globe to map, from map to globe, and what holds of them.
 pub mod Conic
 pub mod MapToGlobe
-pub mod Exact
 pub mod Laws
-pub mod Tight

@@ -16,14 +16,14 @@ use Rattle.trig.proofs.Spread.{cosine-least, nearby-angles}
 use Rattle.sheet.specs.declared.Sheet.{Sheet}
 use Rattle.sheet.specs.Sheets.{w, n, g, coneAngleOf, passesChecks}
 use Rattle.sheet.proofs.ConeAngles.{cone-angle-size, cone-angle-step}
 use Rattle.conic.specs.Conic.{rOf, r0, tOf, xAt, yAt, xOf, yOf}
 use Rattle.conic.specs.MapToGlobe.{pointInRange, vOf, radiusAt, notLeft, notRight, pointOnSheet, offsetAt, latitudeOf, longitudeOf}
-use Rattle.conic.specs.Laws.{BackWithinSixteenUnits}
+use Rattle.accuracy.specs.Accuracy.{BackWithinSixteenUnits}
 use Rattle.conic.proofs.Ranges.{limits, n-size}
 use Rattle.conic.proofs.Answered.{on-sheet-answered}
 use Rattle.conic.proofs.OwnSheet.{point-on-sheet-holds, r-range, d-between, d-range, longitude-is, on-its-own-sheet, point-answered, not-refused-on-sheet}
 use Rattle.conic.proofs.Distance.{radius-is-root}
-use Rattle.conic.proofs.Returned.{returned}
+use Rattle.accuracy.proofs.Returned.{returned}
 
 -- h in x and k in y are a distance of up to 16; so are both in size
 abbrev Close : (h k : ℤ) → Type 0

@@ -17,8 +17,8 @@ use Rattle.trig.specs.Exact.{Fraction, whole, _times_, _minus_, sine, cosine, N
 use Rattle.trig.proofs.PowerSeries.{sine-positive, cosine-positive}
 use Rattle.trig.proofs.ExactErrors.{Off, sine-off, cosine-off}
 use Rattle.sheet.specs.Sheets.{coneAngleOf}
-use Rattle.conic.specs.Exact.{thetaOf}
-use Rattle.conic.proofs.SheetAngle.{near-theta}
+use Rattle.accuracy.specs.Exact.{thetaOf}
+use Rattle.accuracy.proofs.SheetAngle.{near-theta}
 
 -- r s / ONE against r p, where s is within 6 ONEths of ONE p: r is up to ONE / 4, so that 1.5 is added to 1 for the division
 module _ (r s e : ℤ) (r-size : Size (pos 268435456) r) (enough : e ≤ℤ pos 6000) where

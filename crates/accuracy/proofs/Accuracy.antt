@@ -1,11 +1,11 @@
 -- Demand 3, first sentence: what is on a sheet that passes its checks is answered, less than 3 units from the exact value. Assumes nothing.
 use Rattle.sheet.specs.Sheets.{n, offsetOf}
 use Rattle.conic.specs.Conic.{tOf, rOf, r0, xAt, yAt, xOf, yOf}
-use Rattle.conic.specs.Exact.{theta, X, Y}
-use Rattle.conic.specs.Laws.{LessThanThreeUnitsOff}
+use Rattle.accuracy.specs.Exact.{theta, X, Y}
+use Rattle.accuracy.specs.Accuracy.{LessThanThreeUnitsOff}
 use Rattle.conic.proofs.Ranges.{n-size, r-size, d-size}
 use Rattle.conic.proofs.Answered.{on-sheet-answered}
-use Rattle.conic.proofs.NearExact.{x-near, y-near}
+use Rattle.accuracy.proofs.NearExact.{x-near, y-near}
 
 pub less-than-three-units-off : LessThanThreeUnitsOff
 unfolding xOf yOf xAt yAt tOf X Y theta

@@ -13,9 +13,9 @@ use Rattle.sheet.specs.declared.Sheet.{Sheet}
 use Rattle.sheet.specs.Sheets.{passesChecks, onSheet}
 use Rattle.sheet.specs.Laws.{mirrored}
 use Rattle.sheet.specs.Samples.{sheetA}
 use Rattle.conic.specs.Conic.{rOf, tOf, xOf, yOf}
 use Rattle.conic.specs.MapToGlobe.{latitudeOf, longitudeOf, inverseReply}
-use Rattle.conic.specs.Exact.{X, Y}
+use Rattle.accuracy.specs.Exact.{X, Y}
 
 -- a sheet whose cone has its apex far off: along the parallel of 13 degrees, with the nearest whole numbers to Snyder's constants
 abbrev pub farSheet : Sheet
@@ -56,7 +56,7 @@ OneUnitIsFalse =
     OnGoodSheet farSheet latitude longitude × (Near 1 (xOf farSheet latitude longitude) (X farSheet latitude longitude) → ⊥)
 
 -- Flooring instead of dropping toward zero: on sheet A, 60 degrees west, x is then a unit from the mirror of its eastern x, and still less than 3 from the exact value.
--- So the mirror (Laws: Mirror) rules it out, and demand 3 does not.
+-- So the mirror (conic's Laws: Mirror) rules it out, and demand 3 does not.
 abbrev pub FloorBreaksMirror : Type 0
 FloorBreaksMirror =
     let latitude = pos 30000000 in

@@ -6,10 +6,10 @@ use Rattle.trig.specs.Trig.{angleOf, squareOf, seriesOf, sineOf, cosineOf, root
 use Rattle.trig.specs.Exact.{power, factorial, series, sine, cosine}
 use Rattle.sheet.specs.Sheets.{withinLimits, coneAngleOf, coneAgrees, radiusAgrees, constantsAgree, sheetRules, shifted, offsetOf, onSheet}
 use Rattle.sheet.specs.Laws.{mirrored}
 use Rattle.conic.specs.Conic.{tOf, xAt, yAt, xOf, yOf}
 use Rattle.conic.specs.MapToGlobe.{radiusAt, notLeft, notRight, pointOnSheet, halved, lastLo, latitudeOf, longitudeOf, pointRules}
-use Rattle.conic.specs.Exact.{theta, X, Y}
-use Rattle.conic.specs.Tight.{FourUnitsOffIsFalse, OneUnitIsFalse, FloorBreaksMirror, OneUnitBackIsFalse}
+use Rattle.accuracy.specs.Exact.{theta, X, Y}
+use Rattle.accuracy.specs.Tight.{FourUnitsOffIsFalse, OneUnitIsFalse, FloorBreaksMirror, OneUnitBackIsFalse}
 
 pub four-units-off-is-false : FourUnitsOffIsFalse
 unfolding angleOf squareOf seriesOf sineOf cosineOf withinLimits coneAngleOf coneAgrees radiusAgrees constantsAgree sheetRules shifted offsetOf onSheet
