@@ -1,9 +1,10 @@
 -- What the range of a value closes: that it fits its type, that it is a plain number, its bounds, what a test says, a cast. Assumes nothing.
 -- `fits (search ranges depth 9) tt` answers the need of a sum, a difference, a product or a cast between signed types, `div-fits` that of a division, and `plain` that a result is what the contract says.
-use mathlib.Core.Path.{_≡_, sym, _∙_, ap, subst}
-use mathlib.Core.Bool.{Bool, true, false, _&&_}
+use mathlib.Core.Path.{_≡_, refl, sym, _∙_, ap, subst}
+use mathlib.Core.Bool.{Bool, true, false, _&&_, true≢false}
 use Prim.Native.Nat.{ℕ, _-_, _<_, _^_}
-use lib.Dec.{T, ltb, ltb→lt}
+use lib.Dec.{T, ltb, ltb→lt, eqb}
+use borrow.Author.Tests.{eq-eqb, ne-eqb}
 use lib.IntN.{ℤ, pos, negsuc, natAbs}
 use lib.Signed.{mag, nonNeg, leZ, ltZ, _≤ℤ_, _<ℤ_, leZ-yes, yes-nonNeg, pos-natAbs}
 use lib.Pow.{pow-pos, le-ones}
@@ -11,7 +12,8 @@ use mir.Syntax.{Width}
 use mir.Val.{SFits, Fits, bits, hbits, toZ, ofZ}
 use mir.Facts.{toZ-ofZ, and-yes}
 use Rattle.arith.proofs.Parts.{linear}
-use Rattle.arith.proofs.Order.{≤ℤ-trans, lt-true, lt-false, le-true, le-false}
+use Rattle.arith.specs.Bounds.{isWithin}
+use Rattle.arith.proofs.Order.{≤ℤ-trans, ≤ℤ-antisymm, within-true, true-within, lt-true, lt-false, le-true, le-false}
 use Rattle.arith.proofs.Ends.{Ends, ends, lo, good, inside, bitsE, Lies, fits-lies}
 pub use Rattle.arith.proofs.Range.{Range, Within, shapes, ranges, between, within, via, any, nat, nat-bits, lit, r-bits, r-add, r-neg, r-sub, r-mul, r-quot, r-rem}
 
@@ -80,6 +82,18 @@ eq-yes {w} f g p = sym (toZ-ofZ f) ∙ ap (toZ w) p ∙ toZ-ofZ g
 
 pub eq-no : (w : Width) {a b : ℤ} → (ofZ w a ≡ ofZ w b → ⊥) → a ≡ b → ⊥
 eq-no w k p = k (ap (ofZ w) p)
+
+-- the same of the test as a value: `a == b` is what `isWithin b b a` tests
+pub eq-same : {w : Width} {a b : ℤ} → SFits w a → SFits w b → eqb (ofZ w a) (ofZ w b) ≡ isWithin b b a
+eq-same {w} {a} {b} f g = by-test (isWithin b b a) refl
+  where
+    by-test : (t : Bool) → isWithin b b a ≡ t → eqb (ofZ w a) (ofZ w b) ≡ isWithin b b a
+    by-test true e = let h = within-true {lo = b} {hi = b} {z = a} e in eq-eqb _ _ (ap (ofZ w) (≤ℤ-antisymm (h .high) (h .low))) ∙ sym e
+    by-test false e =
+        ne-eqb _ _ (λ q.
+        let p = eq-yes f g q in
+        true≢false (sym (true-within {lo = b} {hi = b} {z = a} (record { low = omega linear; high = omega linear })) ∙ e))
+        ∙ sym e
 
 -- ---- the range of a parameter that was tested: `search guarded` finds the tests in what a need is handed
 

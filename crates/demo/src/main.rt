@@ -1,5 +1,6 @@
-// Runs the engine on the worked examples of document 01, cases 1 to 10, and just outside the ranges and the
+// Runs the engine on the worked examples of document 01, cases 1 to 11, and just outside the ranges and the
 // sheet: a line for each, its input, and its values or refusal.
+use atlas_file::FileAnswer;
 use conic::GlobeAnswer;
 use conic::MapAnswer;
 use libc::STDOUT_FILENO;
@@ -38,7 +39,94 @@ fn main() {
     show_check(b"half-width", 60000001, sheet_a(60000001, 536870912));
     show_check(b"cone constant", 536870922, sheet_a(60000000, 536870922));
     show_check(b"cone constant", 536870944, sheet_a(60000000, 536870944));
+    let file = MILL;
+    show_read(b"79 bytes", &file);
+    show_read(b"78 bytes", &file[0..78]);
+    show_read(b"0 bytes", &file[0..0]);
 }
+
+// The file of sheet A and place 7, "Mill", at latitude 31 degrees.
+const MILL: [u8; 79] = [
+    1,
+    128,
+    195,
+    201,
+    1,
+    128,
+    195,
+    201,
+    1,
+    128,
+    195,
+    201,
+    1,
+    128,
+    150,
+    152,
+    0,
+    0,
+    45,
+    49,
+    1,
+    0,
+    90,
+    98,
+    2,
+    0,
+    135,
+    147,
+    3,
+    0,
+    0,
+    0,
+    32,
+    161,
+    8,
+    180,
+    7,
+    2,
+    7,
+    0,
+    0,
+    0,
+    192,
+    5,
+    217,
+    1,
+    128,
+    150,
+    152,
+    0,
+    0,
+    0,
+    0,
+    0,
+    64,
+    66,
+    15,
+    0,
+    77,
+    105,
+    108,
+    108,
+    0,
+    0,
+    0,
+    0,
+    0,
+    0,
+    0,
+    0,
+    0,
+    0,
+    0,
+    0,
+    3,
+    1,
+    0,
+    0,
+    0,
+];
 
 // Sheet A with a half-width and a cone constant.
 fn sheet_a(half_width: u32, cone_constant: u32) -> Sheet {
@@ -110,6 +198,27 @@ fn show_check(name: &[u8], value: i64, sheet: Sheet) {
         }
         Verdict::Refused(r) => {
             show_refusal(r);
+        }
+    }
+}
+
+// Some bytes of a file, for a table with room for one place: how many places, or the refusal and its offset.
+fn show_read(name: &[u8], bytes: &[u8]) {
+    io::write_all(STDOUT_FILENO, b"read ");
+    io::write_all(STDOUT_FILENO, name);
+    let answer = atlas_file::read_through(bytes, 1);
+    match answer {
+        FileAnswer::Atlas { count, sheet: _ } => {
+            io::write_all(STDOUT_FILENO, b" places ");
+            io::print_decimal(STDOUT_FILENO, count as u64);
+            io::write_all(STDOUT_FILENO, b"\n");
+        }
+        FileAnswer::Refused { refusal, offset } => {
+            io::write_all(STDOUT_FILENO, b" refused ");
+            print(refusal::number(refusal) as i64);
+            io::write_all(STDOUT_FILENO, b" at ");
+            io::print_decimal(STDOUT_FILENO, offset as u64);
+            io::write_all(STDOUT_FILENO, b"\n");
         }
     }
 }

@@ -1,2 +1,3 @@
 -- The worked examples hold.
 pub mod Hold
+pub mod Read

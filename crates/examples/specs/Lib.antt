@@ -1,2 +1,3 @@
--- The worked examples.
+-- The worked examples: the starred cases as one table, and case 11.
 pub mod Examples
+pub mod Files

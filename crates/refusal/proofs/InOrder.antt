@@ -7,7 +7,7 @@ use Prim.Native.Nat.{ℕ}
 use Rattle.refusal.specs.declared.Refusal.{Refusal}
 use Rattle.refusal.specs.Numbers.{Reply, accepted, refused}
 use Rattle.refusal.specs.Rules.{allHold}
-use Rattle.refusal.specs.Laws.{AcceptedAllHold, NotRefusedAllHold, OthersDecide, RefusedFirst, BothHold, AgreeBehind}
+use Rattle.refusal.specs.Laws.{AcceptedAllHold, NotRefusedAllHold, OthersDecide, RefusedFirst, BothHold, HoldTogether, AgreeBehind, InTurn, AllHoldGood, RefusedBad, ByOutcome, ByOutcomes}
 use Rattle.refusal.proofs.Distinct.{no-number-zero, number-of, same-refusal, accepted-or-refused}
 
 -- one rule: the number 0 goes past it, a refusal is its own or goes past it
@@ -47,6 +47,43 @@ both-hold (rule ∷ rules) others e =
     let h = both-hold rules others (and-elim-right (rule .holds) (allHold (rules ++ others)) e) in
     (rw (and-elim-left (rule .holds) (allHold (rules ++ others)) e) (h .0), h .1)
 
+pub hold-together : HoldTogether
+hold-together [] others e f = f
+hold-together (rule ∷ rules) others e f =
+    rw (and-elim-left (rule .holds) (allHold rules) e) (hold-together rules others (and-elim-right (rule .holds) (allHold rules) e) f)
+
 pub agree-behind : AgreeBehind
 agree-behind k [] first second p q f = f refl
 agree-behind k (rule ∷ rules) first second p q f = agree-past (rule .holds) _ _ _ (λ h. agree-behind k rules first second p q (λ hs. f (rw h hs)))
+
+-- ---- of outcomes
+
+by-rule : {A : Type 0} (P : A → A → Type 0) (holds : Bool) (x y u v : A) → (holds ≡ true → P x u) → P y v → P (cond holds x y) (cond holds u v)
+by-rule P true x y u v f g = f refl
+by-rule P false x y u v f g = g
+
+bad-past : {A : Type 0} (holds : Bool) (k : ℕ) (r q : Refusal) (p : Reply) (x : A) (bad : Refusal → A) → (refused k r ≡ p → x ≡ bad r) →
+    refused k r ≡ cond holds p (refused k q) → cond holds x (bad q) ≡ bad r
+bad-past true k r q p x bad f e = f e
+bad-past false k r q p x bad f e = ap bad (sym (same-refusal k k r q e))
+
+pub in-turn : InTurn
+in-turn A [] others good bad = refl
+in-turn A (rule ∷ rules) others good bad = ap (λ x. cond (rule .holds) x (bad (rule .refusal))) (in-turn A rules others good bad)
+
+pub all-hold-good : AllHoldGood
+all-hold-good A [] good bad e = refl
+all-hold-good A (rule ∷ rules) good bad e =
+    rw (and-elim-left (rule .holds) (allHold rules) e) (all-hold-good A rules good bad (and-elim-right (rule .holds) (allHold rules) e))
+
+pub refused-bad : RefusedBad
+refused-bad A k [] vs good bad r e = absurd (accepted-or-refused vs k r (sym e))
+refused-bad A k (rule ∷ rules) vs good bad r e = bad-past (rule .holds) k r (rule .refusal) _ _ bad (refused-bad A k rules vs good bad r) e
+
+pub by-outcomes : ByOutcomes
+by-outcomes A P [] first second bad worse f g = f refl
+by-outcomes A P (rule ∷ rules) first second bad worse f g =
+    by-rule P (rule .holds) _ _ _ _ (λ h. by-outcomes A P rules first second bad worse (λ hs. f (rw h hs)) g) (g (rule .refusal))
+
+pub by-outcome : ByOutcome
+by-outcome A P rules good bad = by-outcomes A (λ a _. P a) rules good good bad bad

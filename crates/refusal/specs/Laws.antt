@@ -6,7 +6,7 @@ use Prim.Native.Nat.{ℕ}
 use lib.IntN.{ℤ}
 use Rattle.refusal.specs.declared.Refusal.{Refusal}
 use Rattle.refusal.specs.Numbers.{Reply, accepted, refused}
-use Rattle.refusal.specs.Rules.{Rule, inOrder, allHold}
+use Rattle.refusal.specs.Rules.{Rule, outcome, inOrder, allHold}
 
 -- if the answer is an acceptance, all the rules hold
 abbrev pub AcceptedAllHold : Type 0
@@ -29,7 +29,33 @@ RefusedFirst = (j k : ℕ) (rules others : List Rule) (vs : List ℤ) (reply : R
 abbrev pub BothHold : Type 0
 BothHold = (rules others : List Rule) → allHold (rules ++ others) ≡ true → (allHold rules ≡ true) × (allHold others ≡ true)
 
+-- and back
+abbrev pub HoldTogether : Type 0
+HoldTogether = (rules others : List Rule) → allHold rules ≡ true → allHold others ≡ true → allHold (rules ++ others) ≡ true
+
 -- two answers that agree wherever the rules hold agree with the rules before them
 abbrev pub AgreeBehind : Type 0
 AgreeBehind = (k : ℕ) (rules first second : List Rule) (p q : Reply) → (allHold rules ≡ true → inOrder k first p ≡ inOrder k second q) →
     inOrder k (rules ++ first) p ≡ inOrder k (rules ++ second) q
+
+-- rules with others after them: the others stand where all the rules hold
+abbrev pub InTurn : Type 1
+InTurn = (A : Type 0) (rules others : List Rule) (good : A) (bad : Refusal → A) → outcome (rules ++ others) good bad ≡ outcome rules (outcome others good bad) bad
+
+-- where all the rules hold, the outcome is `good`
+abbrev pub AllHoldGood : Type 1
+AllHoldGood = (A : Type 0) (rules : List Rule) (good : A) (bad : Refusal → A) → allHold rules ≡ true → outcome rules good bad ≡ good
+
+-- if an answer by the same rules is a refusal, the outcome is `bad` of that refusal
+abbrev pub RefusedBad : Type 1
+RefusedBad = (A : Type 0) (k : ℕ) (rules : List Rule) (vs : List ℤ) (good : A) (bad : Refusal → A) (r : Refusal) →
+    refused k r ≡ inOrder k rules (accepted vs) → outcome rules good bad ≡ bad r
+
+-- what holds of `good`, where all the rules hold, and of `bad` of any refusal holds of the outcome; of two outcomes of the same rules too
+abbrev pub ByOutcome : Type 1
+ByOutcome = (A : Type 0) (P : A → Type 0) (rules : List Rule) (good : A) (bad : Refusal → A) →
+    (allHold rules ≡ true → P good) → ((r : Refusal) → P (bad r)) → P (outcome rules good bad)
+
+abbrev pub ByOutcomes : Type 1
+ByOutcomes = (A : Type 0) (P : A → A → Type 0) (rules : List Rule) (first second : A) (bad worse : Refusal → A) →
+    (allHold rules ≡ true → P first second) → ((r : Refusal) → P (bad r) (worse r)) → P (outcome rules first bad) (outcome rules second worse)

@@ -14,10 +14,14 @@ infix 20 _else-refuse_
 abbrev pub _else-refuse_ : Bool → Refusal → Rule
 condition else-refuse r = record { holds = condition; refusal = r }
 
+-- the first rule that does not hold decides: `bad` of its refusal; where all hold, `good`
+abbrev pub outcome : {A : Type 0} → List Rule → (good : A) → (bad : Refusal → A) → A
+outcome [] good bad = good
+outcome (rule ∷ rules) good bad = cond (rule .holds) (outcome rules good bad) (bad (rule .refusal))
+
 -- the first rule that does not hold refuses, with k zeros; where all hold, the reply comes back
 abbrev pub inOrder : ℕ → List Rule → Reply → Reply
-inOrder k [] reply = reply
-inOrder k (rule ∷ rules) reply = cond (rule .holds) (inOrder k rules reply) (refused k (rule .refusal))
+inOrder k rules reply = outcome rules reply (refused k)
 
 abbrev pub allHold : List Rule → Bool
 allHold [] = true

@@ -1,0 +1,108 @@
+-- What a step can be: refused, with the state as it was; a sheet or a place, and the state past its record; or the end. Assumes nothing.
+use mathlib.Core.Path.{_≡_, refl, sym, ap, _∙_}
+use mathlib.Core.Bool.{Bool, true, false, _&&_}
+use mathlib.Core.List.{List, [], _∷_, _++_}
+use mathlib.Mathlib.Data.Bool.Basic.{and-elim-left, and-elim-right}
+use Prim.Native.Nat.{ℕ, suc, _+_, _-_, _≤_, _<_}
+use native.Mathlib.Nat.{add-zero}
+use native.Mathlib.Omega.{arith}
+use lib.ListN.{length, getD, take, drop, take-append-drop, List·getD-append}
+use lib.Seq.{length-take-le, getD-drop, take-all}
+use lib.Dec.{ltb}
+use borrow.Author.Tests.{ltb-true, ltb-false, eqb-true, not-true}
+use Rattle.refusal.specs.declared.Refusal.{Refusal}
+use Rattle.refusal.specs.declared.Refusal.the-variants.{Cut}
+use Rattle.refusal.specs.Rules.{Rule, _else-refuse_, allHold}
+use Rattle.refusal.proofs.InOrder.{by-outcome, both-hold}
+use Rattle.sheet.specs.Sheets.{sheetRules}
+use Rattle.records.specs.declared.Record.{Record}
+use Rattle.records.specs.declared.Record.the-variants as which
+use Rattle.records.specs.declared.Layout.{Layout}
+use Rattle.records.specs.declared.Layout.the-variants.{Known, Refused}
+use Rattle.records.specs.Records.{layoutOf, IsRecord, sheetOf, placeOf, endOf}
+use Rattle.atlas_file.specs.declared.State.{State}
+use Rattle.atlas_file.specs.declared.Found.the-variants as found
+use Rattle.atlas_file.specs.declared.StepAnswer.{StepAnswer}
+use Rattle.place.specs.Places.{placeRules}
+use Rattle.atlas_file.specs.Steps.{mostPlaces, pastSheet, pastPlace, refusedStep, dueRules, endRules, lastRules, sheetStep, placeStep, endStep, contentStep, recordStep, layoutStep, stepOf}
+use Rattle.place.specs.Places.{blankPlace}
+
+pub data Stepped (b : List ℕ) (s : State) : StepAnswer → Type 0 where
+  refused : (why : Refusal) (offset : ℕ) → Stepped b s (refusedStep s why offset)
+  sheet : (r rest : List ℕ) → IsRecord which.Sheet r → drop (s .«at») b ≡ r ++ rest → s .«sheet_read» ≡ false → allHold (sheetRules (sheetOf r)) ≡ true →
+      Stepped b s (record { «found» = found.Sheet (sheetOf r); «place» = blankPlace; «next» = pastSheet s r })
+  place : (r rest : List ℕ) → IsRecord which.Place r → drop (s .«at») b ≡ r ++ rest → s .«sheet_read» ≡ true → s .«count» < mostPlaces → s .«count» < s .«room» →
+      allHold (placeRules (s .«sheet») (s .«count») (s .«last_id») (placeOf r)) ≡ true →
+      Stepped b s (record { «found» = found.Place; «place» = placeOf r; «next» = pastPlace s r })
+  end : (r : List ℕ) → IsRecord which.End r → drop (s .«at») b ≡ r → s .«sheet_read» ≡ true → endOf r ≡ s .«count» →
+      Stepped b s (record { «found» = found.End (endOf r); «place» = blankPlace; «next» = s })
+
+-- one rule that holds
+first-holds : (t : Bool) (rules : List Rule) → (t && allHold rules) ≡ true → t ≡ true
+first-holds t rules e = and-elim-left t (allHold rules) e
+
+-- a place that is due: the sheet is read, and there is room
+pub place-due : (s : State) → allHold (dueRules which.Place s) ≡ true → (s .«sheet_read» ≡ true) × (s .«count» < mostPlaces) × (s .«count» < s .«room»)
+unfolding dueRules
+place-due s due =
+    let rooms = first-holds _ [] (and-elim-right (s .«sheet_read») _ due) in
+    let few = ltb (s .«count») mostPlaces in
+    (and-elim-left (s .«sheet_read») _ due, ltb-true _ _ (and-elim-left few _ rooms), ltb-true _ _ (and-elim-right few _ rooms))
+
+module _ (b : List ℕ) (s : State) (body : ℕ) (whole : ltb body (length (drop (s .«at») b)) ≡ true) where
+  abbrev r : List ℕ
+  r = take (suc body) (drop (s .«at») b)
+
+  splits : drop (s .«at») b ≡ r ++ drop (suc body) (drop (s .«at») b)
+  splits = sym (take-append-drop (suc body) (drop (s .«at») b))
+
+  pub is-whole : length r ≡ suc body
+  is-whole = length-take-le (suc body) (drop (s .«at») b) (let h : body < length (drop (s .«at») b) = ltb-true _ _ whole in omega arith)
+
+  first-byte : getD r 0 0 ≡ getD b (s .«at») 0
+  first-byte =
+      sym (List·getD-append r (drop (suc body) (drop (s .«at») b)) 0 0 (omega (arith, is-whole)))
+      ∙ ap (λ (l : List ℕ). getD l 0 0) (sym splits)
+      ∙ getD-drop (s .«at») b 0 0
+      ∙ ap (λ (k : ℕ). getD b k 0) (add-zero (s .«at»))
+
+  pub a-record : (kind : Record) → layoutOf (getD b (s .«at») 0) ≡ Known kind body → IsRecord kind r
+  a-record kind e = record { body = body; kind = ap layoutOf first-byte ∙ e; whole = is-whole }
+
+  content-view : (kind : Record) → layoutOf (getD b (s .«at») 0) ≡ Known kind body → allHold (dueRules kind s) ≡ true →
+      Stepped b s (contentStep kind r (ltb (suc body) (length (drop (s .«at») b))) s)
+  unfolding contentStep dueRules sheetStep placeStep endStep
+  content-view which.Sheet e due =
+      by-outcome StepAnswer (Stepped b s) (sheetRules (sheetOf r)) _ _
+      (λ h. sheet r _ (a-record which.Sheet e) splits (not-true _ (first-holds _ [] due)) h)
+      (λ why. refused why _)
+  content-view which.Place e due =
+      let d = place-due s due in
+      by-outcome StepAnswer (Stepped b s) (placeRules (s .«sheet») (s .«count») (s .«last_id») (placeOf r)) _ _
+      (λ h. place r _ (a-record which.Place e) splits (d .0) (d .1) (d .2) h)
+      (λ why. refused why _)
+  content-view which.End e due =
+      by-outcome StepAnswer (Stepped b s) (endRules r s) _ _
+      (λ same. by-outcome StepAnswer (Stepped b s) (lastRules (ltb (suc body) (length (drop (s .«at») b)))) _ _
+      (λ last.
+      let short : length (drop (s .«at») b) ≤ suc body = ltb-false _ _ (not-true _ (first-holds _ [] last)) in
+      end r (a-record which.End e) (sym (take-all (suc body) (drop (s .«at») b) short)) (first-holds _ [] due) (eqb-true _ _ (first-holds _ [] same)))
+      (λ why. refused why (s .«at» + length r)))
+      (λ why. refused why (s .«at»))
+
+record-view : (b : List ℕ) (s : State) (kind : Record) (body : ℕ) → layoutOf (getD b (s .«at») 0) ≡ Known kind body →
+    Stepped b s (recordStep kind body (drop (s .«at») b) s)
+unfolding recordStep
+record-view b s kind body e =
+    by-outcome StepAnswer (Stepped b s) (dueRules kind s ++ ((ltb body (length (drop (s .«at») b)) else-refuse _) ∷ [])) _ _
+    (λ h. let hs = both-hold (dueRules kind s) _ h in content-view b s body (first-holds _ [] (hs .1)) kind e (hs .0))
+    (λ why. refused why _)
+
+layout-view : (b : List ℕ) (s : State) (l : Layout) → layoutOf (getD b (s .«at») 0) ≡ l → Stepped b s (layoutStep l (drop (s .«at») b) s)
+layout-view b s (Known kind body) e = record-view b s kind body e
+layout-view b s (Refused why) e = refused why _
+
+pub view : (b : List ℕ) (s : State) → Stepped b s (stepOf b s)
+unfolding stepOf
+view b s =
+    by-outcome StepAnswer (Stepped b s) ((ltb (s .«at») (length b) else-refuse Cut) ∷ []) _ _ (λ _. layout-view b s _ refl) (λ why. refused why (s .«at»))

@@ -1,0 +1,44 @@
+-- Case 11 holds: its cuts by the law of cut files, the rest by computation. Assumes nothing.
+use mathlib.Core.Path.{_≡_, refl, ap}
+use native.Mathlib.Omega.{arith}
+use Rattle.trig.specs.Trig.{angleOf, squareOf, seriesOf, sineOf, cosineOf}
+use Rattle.sheet.specs.Sheets.{withinLimits, coneAngleOf, coneAgrees, radiusAgrees, constantsAgree, sheetRules, shifted, offsetOf, onSheet}
+use Rattle.conic.specs.Conic.{positionRules, tOf, xAt, yAt, xOf, yOf}
+use Rattle.records.specs.Numbers.{signed, unsigned, i32At, u32Bytes, numbersBytes}
+use Rattle.place.specs.Names.{isName}
+use Rattle.records.specs.Records.{layoutOf, sheetOf, sheetRecord, placeOf, placeRecord, endOf, endRecord}
+use Rattle.place.specs.Places.{placeRulesAt, placeRules}
+use Rattle.atlas_file.specs.Steps.{refusedStep, dueRules, sheetStep, placeStep, endStep, contentStep, recordStep, stepOf}
+use Rattle.atlas_file.specs.Reading.{Reading, startOf, readFrom, readOf}
+use Rattle.atlas_file.specs.Writing.{placeRecords, fileOf, placesRules, listRules, writeRules}
+use Rattle.atlas_file.proofs.Cuts.{cut-refused}
+use Rattle.examples.specs.Files.{millFile, MillLength, MillRead, MillCut, NothingRead, ShortBuffer}
+
+pub mill-length : MillLength
+unfolding fileOf sheetRecord placeRecords placeRecord endRecord numbersBytes u32Bytes unsigned
+mill-length = refl
+
+pub mill-read : MillRead
+unfolding angleOf squareOf seriesOf sineOf cosineOf
+    withinLimits coneAngleOf coneAgrees radiusAgrees constantsAgree sheetRules shifted offsetOf onSheet positionRules tOf xAt yAt xOf yOf
+    signed unsigned i32At u32Bytes numbersBytes isName layoutOf sheetOf sheetRecord placeOf placeRecord endOf endRecord
+    placeRulesAt placeRules refusedStep dueRules sheetStep placeStep endStep contentStep recordStep stepOf startOf readFrom readOf placeRecords fileOf
+mill-read = refl
+
+pub mill-cut : MillCut
+mill-cut k h =
+    let good : readOf millFile 1 .reply .number ≡ 0 = ap (λ (r : Reading). r .reply .number) mill-read in
+    let one : readOf millFile 1 .reply .count ≡ 1 = ap (λ (r : Reading). r .reply .count) mill-read in
+    let c = cut-refused millFile 1 1 k good (omega arith) (omega (arith, mill-length)) in
+    ap (λ (r : Reading). r .reply .number) (c .2)
+
+pub nothing-read : NothingRead
+unfolding refusedStep stepOf startOf readFrom readOf
+nothing-read = refl
+
+pub short-buffer : ShortBuffer
+unfolding angleOf squareOf seriesOf sineOf cosineOf
+    withinLimits coneAngleOf coneAgrees radiusAgrees constantsAgree sheetRules shifted offsetOf onSheet positionRules tOf xAt yAt xOf yOf
+    u32Bytes unsigned numbersBytes isName sheetRecord placeRecord endRecord
+    placeRulesAt placeRules placeRecords fileOf placesRules listRules writeRules
+short-buffer = refl

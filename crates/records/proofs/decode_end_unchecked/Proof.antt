@@ -1,0 +1,16 @@
+-- `records::decode_end_unchecked` meets its contract. Assumes nothing.
+use native.Mathlib.Omega.{arith}
+use Rattle.records.specs.Records.{endOf}
+use Rattle.records.proofs.KindBytes.{has-length}
+use Rattle.records.proofs.decode_end_unchecked.Statement.{statement}
+use Rattle.records.proofs.decode_end_unchecked.Tie as tie
+
+u32-at-requires : tie.Need-u32-at-requires
+u32-at-requires c κs = omega (arith, has-length)
+
+returns : tie.Need-returns
+unfolding endOf
+returns c = c .u32-at .ensures
+
+pub decode-end-unchecked-spec : {M : Type 1} → statement M
+decode-end-unchecked-spec = tie.close (tie.spec u32-at-requires returns)

@@ -1,0 +1,79 @@
+-- The laws of numbers and records that the file's layer goes by. Each is proved in proofs/, in the file that its comment names.
+use Prim.Native.Nat.{ℕ, _+_, _≤_}
+use mathlib.Core.Path.{_≡_}
+use mathlib.Core.List.{List, _++_}
+use lib.ListN.{length, take, drop}
+use lib.IntN.{ℤ}
+use Rattle.sheet.specs.declared.Sheet.{Sheet}
+use Rattle.records.specs.declared.Record.the-variants as which
+use Rattle.place.specs.declared.Place.{Place}
+use Rattle.records.specs.Numbers.{u32At, i32At, unsigned, u32Bytes, Bytes}
+use Rattle.records.specs.Records.{IsI32, IsU32, IsRecord, IsSheet, IsPlace, sheetOf, sheetRecord, placeOf, placeRecord, endOf, endRecord}
+
+-- a number that is written is read back (NumberLaws)
+abbrev pub U32Back : Type 0
+U32Back = (u : ℕ) (rest : List ℕ) → IsU32 u → u32At (u32Bytes u ++ rest) 0 ≡ u
+
+abbrev pub I32Back : Type 0
+I32Back = (z : ℤ) (rest : List ℕ) → IsI32 z → i32At (u32Bytes (unsigned z) ++ rest) 0 ≡ z
+
+-- and four bytes that are read are written back (NumberLaws)
+abbrev pub U32Forth : Type 0
+U32Forth = (b : List ℕ) (at : ℕ) → Bytes b → at + 4 ≤ length b → u32Bytes (u32At b at) ≡ take 4 (drop at b)
+
+abbrev pub I32Forth : Type 0
+I32Forth = (b : List ℕ) (at : ℕ) → Bytes b → at + 4 ≤ length b → u32Bytes (unsigned (i32At b at)) ≡ take 4 (drop at b)
+
+-- THE SHEET'S RECORD, by which alone the file's layer knows it. It is a sheet's record, and decoding gives the sheet back (SheetRecords)
+abbrev pub SheetKind : Type 0
+SheetKind = (s : Sheet) → IsRecord which.Sheet (sheetRecord s)
+
+abbrev pub SheetBack : Type 0
+SheetBack = (s : Sheet) → IsSheet s → sheetOf (sheetRecord s) ≡ s
+
+-- encoding gives the record back; at any rate one as long (SheetRecords)
+abbrev pub SheetForth : Type 0
+SheetForth = (r : List ℕ) → IsRecord which.Sheet r → Bytes r → sheetRecord (sheetOf r) ≡ r
+
+abbrev pub SheetLength : Type 0
+SheetLength = (r : List ℕ) → IsRecord which.Sheet r → length (sheetRecord (sheetOf r)) ≡ length r
+
+-- no sheet's record is longer than this (SheetRecords)
+abbrev pub longestSheetRecord : ℕ
+longestSheetRecord = 37
+
+abbrev pub SheetMost : Type 0
+SheetMost = (r : List ℕ) → IsRecord which.Sheet r → length r ≤ longestSheetRecord
+
+-- what is decoded fits the types of the fields (SheetRecords)
+abbrev pub SheetDecoded : Type 0
+SheetDecoded = (r : List ℕ) → IsRecord which.Sheet r → Bytes r → IsSheet (sheetOf r)
+
+-- the same of a place's record, which has 37 bytes (PlaceRecords)
+abbrev pub PlaceKind : Type 0
+PlaceKind = (p : Place) → length (p .«name») ≡ 16 → IsRecord which.Place (placeRecord p)
+
+abbrev pub PlaceBack : Type 0
+PlaceBack = (p : Place) → IsPlace p → placeOf (placeRecord p) ≡ p
+
+abbrev pub PlaceForth : Type 0
+PlaceForth = (r : List ℕ) → IsRecord which.Place r → Bytes r → placeRecord (placeOf r) ≡ r
+
+abbrev pub PlaceLength : Type 0
+PlaceLength = (r : List ℕ) → IsRecord which.Place r → length r ≡ 37
+
+abbrev pub PlaceDecoded : Type 0
+PlaceDecoded = (r : List ℕ) → IsRecord which.Place r → Bytes r → IsPlace (placeOf r)
+
+-- and of the end record, which has 5 (PlaceRecords)
+abbrev pub EndKind : Type 0
+EndKind = (count : ℕ) → IsRecord which.End (endRecord count)
+
+abbrev pub EndBack : Type 0
+EndBack = (count : ℕ) → IsU32 count → endOf (endRecord count) ≡ count
+
+abbrev pub EndForth : Type 0
+EndForth = (r : List ℕ) → IsRecord which.End r → Bytes r → endRecord (endOf r) ≡ r
+
+abbrev pub EndLength : Type 0
+EndLength = (r : List ℕ) → IsRecord which.End r → length r ≡ 5

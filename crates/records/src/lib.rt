@@ -1,0 +1,267 @@
+// The records of an atlas file (document 01, 'The atlas file'): their kinds, little-endian numbers, and the bytes of a sheet, a
+// place and the end. A record is its kind byte and its body.
+//
+// A function whose name ends in _unchecked is not offered to callers, as in trig.
+ghost use mathlib.Core.Path.{_≡_};
+ghost use Prim.Native.Nat.{_+_, _*_, _≤_, _<_};
+ghost use lib.ListN.{length, take, drop};
+ghost use Rattle.records.specs.Numbers.{u32At, i32At, signed, unsigned, u32Bytes, numbersBytes, put};
+ghost use Rattle.records.specs.Records.{layoutOf, IsRecord, blankSheet, sheetOf, sheetRecord, placeOf, placeRecord, endOf, endRecord};
+ghost use Rattle.records.specs.declared.Record.the-variants as which;
+use place::NAME_LENGTH;
+use place::Place;
+use refusal::Refusal;
+use sheet::Sheet;
+
+// The kinds, and how many bytes follow each kind's byte.
+const SHEET: u8 = 1;
+
+const PLACE: u8 = 2;
+
+const END: u8 = 3;
+
+const SHEET_LENGTH: usize = 36;
+
+const PLACE_LENGTH: usize = 36;
+
+const END_LENGTH: usize = 4;
+
+// Which record it is.
+pub enum Record {
+    Sheet,
+    Place,
+    End,
+}
+
+// What a kind byte says: which record it begins, and how many bytes its body has.
+pub enum Layout {
+    Known { record: Record, body: usize },
+    Refused(Refusal),
+}
+
+// The record that a kind byte begins, and its body's length; 2 for any other kind.
+pub fn layout_of(kind: u8) -> Layout
+    ensures { λ r. ⌜ r ≡ layoutOf kind ⌝ }
+{
+    match kind {
+        SHEET => Layout::Known {
+            record: Record::Sheet,
+            body: SHEET_LENGTH,
+        },
+        PLACE => Layout::Known {
+            record: Record::Place,
+            body: PLACE_LENGTH,
+        },
+        END => Layout::Known {
+            record: Record::End,
+            body: END_LENGTH,
+        },
+        _ => Layout::Refused(Refusal::Kind),
+    }
+}
+
+fn wide(x: u8) -> u32
+    ensures { λ r. ⌜ (r ≡ x) × (r < 256) ⌝ }
+{
+    x as u32
+}
+
+// The number in the four bytes from `at`, the lowest first.
+fn u32_at(bytes: &[u8], at: usize) -> u32
+    requires { ⌜ at + 4 ≤ length (now bytes) ⌝ }
+    ensures { λ r. ⌜ r ≡ u32At (now (bytes .entry)) at ⌝ }
+{
+    wide(bytes[at])
+        + 256 * wide(bytes[at + 1])
+        + 65536 * wide(bytes[at + 2])
+        + 16777216 * wide(bytes[at + 3])
+}
+
+// The number whose two's complement is u. Both arms keep the bits: `!` turns each of them over, twice.
+fn to_signed(u: u32) -> i32
+    ensures { λ r. ⌜ r ≡ signed u ⌝ }
+{
+    if u < 0x8000_0000 {
+        u as i32
+    } else {
+        !(!u as i32)
+    }
+}
+
+// The two's complement of z.
+fn to_unsigned(z: i32) -> u32
+    ensures { λ r. ⌜ r ≡ unsigned z ⌝ }
+{
+    if z < 0 { !(!z as u32) } else { z as u32 }
+}
+
+fn i32_at(bytes: &[u8], at: usize) -> i32
+    requires { ⌜ at + 4 ≤ length (now bytes) ⌝ }
+    ensures { λ r. ⌜ r ≡ i32At (now (bytes .entry)) at ⌝ }
+{
+    to_signed(u32_at(bytes, at))
+}
+
+// Writes u into the four bytes from `at`, the lowest first.
+fn put_u32(out: &mut [u8], at: usize, u: u32)
+    requires { ⌜ at + 4 ≤ length (now out) ⌝ }
+    ensures { λ _. ⌜ now (out .exit) ≡ put (now (out .entry)) at (u32Bytes u) ⌝ }
+{
+    out[at] = (u % 256) as u8;
+    out[at + 1] = (u / 256 % 256) as u8;
+    out[at + 2] = (u / 65536 % 256) as u8;
+    out[at + 3] = (u / 16777216 % 256) as u8;
+}
+
+// Writes numbers one after the other behind the kind byte.
+fn put_numbers(out: &mut [u8], numbers: &[u32])
+    requires { ⌜ 1 + 4 * length (now numbers) ≤ length (now out) ⌝ }
+    ensures { λ _. ⌜ now (out .exit) ≡ put (now (out .entry)) 1 (numbersBytes (now (numbers .entry))) ⌝ }
+{
+    let mut i = 0;
+    while i < numbers.len() {
+        let u = numbers[i];
+        put_u32(out, 1 + 4 * i, u);
+        i += 1;
+    }
+}
+
+// Zeros: what an answer holds where there is no sheet.
+pub fn blank_sheet() -> Sheet
+    ensures { λ r. ⌜ r ≡ blankSheet ⌝ }
+{
+    Sheet {
+        first_parallel: 0,
+        second_parallel: 0,
+        origin_latitude: 0,
+        central_meridian: 0,
+        south_edge: 0,
+        north_edge: 0,
+        half_width: 0,
+        cone_constant: 0,
+        radius_constant: 0,
+    }
+}
+
+// The sheet of a sheet's record; not offered to callers.
+pub fn decode_sheet_unchecked(bytes: &[u8]) -> Sheet
+    requires { ⌜ IsRecord which.Sheet (now bytes) ⌝ }
+    ensures { λ r. ⌜ r ≡ sheetOf (now (bytes .entry)) ⌝ }
+{
+    Sheet {
+        first_parallel: i32_at(bytes, 1),
+        second_parallel: i32_at(bytes, 5),
+        origin_latitude: i32_at(bytes, 9),
+        central_meridian: i32_at(bytes, 13),
+        south_edge: i32_at(bytes, 17),
+        north_edge: i32_at(bytes, 21),
+        half_width: u32_at(bytes, 25),
+        cone_constant: u32_at(bytes, 29),
+        radius_constant: i32_at(bytes, 33),
+    }
+}
+
+// How long a sheet's record is.
+pub fn sheet_record_length(sheet: Sheet) -> usize
+    ensures { λ r. ⌜ r ≡ length (sheetRecord sheet) ⌝ }
+{
+    SHEET_LENGTH + 1
+}
+
+// Fills a part of a buffer with a sheet's record; not offered to callers.
+pub fn write_sheet_unchecked(part: &mut [u8], sheet: Sheet)
+    requires { ⌜ length (now part) ≡ length (sheetRecord sheet) ⌝ }
+    ensures { λ _. ⌜ now (part .exit) ≡ sheetRecord sheet ⌝ }
+{
+    let numbers = [
+        to_unsigned(sheet.first_parallel),
+        to_unsigned(sheet.second_parallel),
+        to_unsigned(sheet.origin_latitude),
+        to_unsigned(sheet.central_meridian),
+        to_unsigned(sheet.south_edge),
+        to_unsigned(sheet.north_edge),
+        sheet.half_width,
+        sheet.cone_constant,
+        to_unsigned(sheet.radius_constant),
+    ];
+    part[0] = SHEET;
+    put_numbers(part, &numbers);
+}
+
+// The name in the bytes from `at`.
+fn name_at(bytes: &[u8], at: usize) -> [u8; 16]
+    requires { ⌜ at + 16 ≤ length (now bytes) ⌝ }
+    ensures { λ r. ⌜ r ≡ take 16 (drop at (now (bytes .entry))) ⌝ }
+{
+    let mut name = [0u8; 16];
+    let mut i = 0;
+    while i < NAME_LENGTH {
+        name[i] = bytes[at + i];
+        i += 1;
+    }
+    name
+}
+
+// Writes a name into the bytes from `at`.
+fn put_name(out: &mut [u8], at: usize, name: [u8; 16])
+    requires { ⌜ at + 16 ≤ length (now out) ⌝ }
+    ensures { λ _. ⌜ now (out .exit) ≡ put (now (out .entry)) at name ⌝ }
+{
+    let mut i = 0;
+    while i < NAME_LENGTH {
+        out[at + i] = name[i];
+        i += 1;
+    }
+}
+
+// The place of a place's record; not offered to callers.
+pub fn decode_place_unchecked(bytes: &[u8]) -> Place
+    requires { ⌜ IsRecord which.Place (now bytes) ⌝ }
+    ensures { λ r. ⌜ r ≡ placeOf (now (bytes .entry)) ⌝ }
+{
+    let name = name_at(bytes, 21);
+    Place {
+        id: u32_at(bytes, 1),
+        latitude: i32_at(bytes, 5),
+        longitude: i32_at(bytes, 9),
+        x: i32_at(bytes, 13),
+        y: i32_at(bytes, 17),
+        name: name,
+    }
+}
+
+// Fills a part of a buffer with a place's record; not offered to callers.
+pub fn write_place_unchecked(part: &mut [u8], place: Place)
+    requires { ⌜ length (now part) ≡ 37 ⌝ }
+    ensures { λ _. ⌜ now (part .exit) ≡ placeRecord place ⌝ }
+{
+    let numbers = [
+        place.id,
+        to_unsigned(place.latitude),
+        to_unsigned(place.longitude),
+        to_unsigned(place.x),
+        to_unsigned(place.y),
+    ];
+    part[0] = PLACE;
+    put_numbers(part, &numbers);
+    let name = place.name;
+    put_name(part, 21, name);
+}
+
+// The number of places in an end record; not offered to callers.
+pub fn decode_end_unchecked(bytes: &[u8]) -> u32
+    requires { ⌜ IsRecord which.End (now bytes) ⌝ }
+    ensures { λ r. ⌜ r ≡ endOf (now (bytes .entry)) ⌝ }
+{
+    u32_at(bytes, 1)
+}
+
+// Fills a part of a buffer with the end record; not offered to callers.
+pub fn write_end_unchecked(part: &mut [u8], count: u32)
+    requires { ⌜ length (now part) ≡ 5 ⌝ }
+    ensures { λ _. ⌜ now (part .exit) ≡ endRecord count ⌝ }
+{
+    let numbers = [count];
+    part[0] = END;
+    put_numbers(part, &numbers);
+}
