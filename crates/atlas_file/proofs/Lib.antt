@@ -1,11 +1,7 @@
--- The laws of the step, of reading and of writing.
+-- The laws of the step, and of reading step by step.
 pub mod ByVerdict
 pub mod Views
 pub mod Turns
 pub mod Moves
 pub mod ReadsOn
 pub mod Answers
-pub mod Accepted
-pub mod Shown
-pub mod Returns
-pub mod Cuts

@@ -1,5 +1,5 @@
 -- Where a step leads: past exactly one record, or nowhere. Assumes nothing.
-use mathlib.Core.Path.{_≡_, refl, sym, ap, _∙_}
+use mathlib.Core.Path.{_≡_, refl, sym, ap, subst, _∙_}
 use mathlib.Core.Bool.{true, false, true≢false}
 use mathlib.Core.List.{List, _++_}
 use Prim.Native.Nat.{ℕ, zero, suc, _+_, _-_, _≤_, _<_}
@@ -7,15 +7,18 @@ use native.Mathlib.Omega.{arith}
 use lib.ListN.{length, drop, length-drop, length-append}
 use lib.Seq.{drop-drop, drop-append-seam}
 use Rattle.records.specs.declared.Record.{Record}
-use Rattle.records.specs.declared.Record.the-variants as which
+use Rattle.records.specs.declared.Record.the-variants as records
 use Rattle.place.specs.declared.Place.{Place}
 use Rattle.atlas_file.specs.declared.State.{State}
 use Rattle.atlas_file.specs.declared.Found.{Found}
 use Rattle.atlas_file.specs.declared.Found.the-variants as found
 use Rattle.atlas_file.specs.declared.StepAnswer.{StepAnswer}
 use Rattle.records.specs.Records.{IsRecord, sheetOf, placeOf, endOf}
-use Rattle.atlas_file.specs.Steps.{refusedStep, stepOf}
+use Rattle.atlas_file.specs.Steps.{mostPlaces, pastSheet, pastPlace, refusedStep, stepOf}
+use Rattle.refusal.specs.Rules.{allHold}
 use Rattle.sheet.specs.declared.Sheet.{Sheet}
+use Rattle.sheet.specs.Sheets.{passesChecks}
+use Rattle.place.specs.Places.{placeRules}
 use Rattle.atlas_file.specs.Reading.{goesOn, readFrom}
 use Rattle.records.specs.Records.{blankSheet}
 use Rattle.atlas_file.specs.Laws.{OneRecord, SheetMoves, PlaceMoves, EndIsLast, Stays, SameAgain, BoundNeverReached}
@@ -23,8 +26,8 @@ use Rattle.atlas_file.proofs.Views.{Stepped, refused, sheet, place, end
 use Rattle.atlas_file.proofs.Turns.{afterStep, read-turn}
 
 -- a record at the front of what is left has a byte or more, and is within the file
-pub further : (kind : Record) (b r rest : List ℕ) (at : ℕ) → IsRecord kind r → drop at b ≡ r ++ rest → (at < at + length r) × (at + length r ≤ length b)
-further kind b r rest at i e =
+pub further : (which : Record) (b r rest : List ℕ) (at : ℕ) → IsRecord which r → drop at b ≡ r ++ rest → (at < at + length r) × (at + length r ≤ length b)
+further which b r rest at i e =
     let l : length (drop at b) ≡ length r + length rest = ap length e ∙ length-append r rest in
     let d : length (drop at b) ≡ length b - at = length-drop at b in
     (omega (arith, i .whole), omega (arith, i .whole))
@@ -33,9 +36,9 @@ further kind b r rest at i e =
 pub behind : (b r rest : List ℕ) (at : ℕ) → drop at b ≡ r ++ rest → drop (at + length r) b ≡ rest
 behind b r rest at e = sym (drop-drop (length r) at b) ∙ ap (drop (length r)) e ∙ drop-append-seam r rest
 
-one-record : (kind : Record) (b : List ℕ) (s next : State) (r rest : List ℕ) → IsRecord kind r → drop (s .«at») b ≡ r ++ rest → next .«at» ≡ s .«at» + length r →
-    OneRecord kind b s next r
-one-record kind b s next r rest i e p = record {
+one-record : (which : Record) (b : List ℕ) (s next : State) (r rest : List ℕ) → IsRecord which r → drop (s .«at») b ≡ r ++ rest → next .«at» ≡ s .«at» + length r →
+    OneRecord which b s next r
+one-record which b s next r rest i e p = record {
   is-record = i;
   here = e ∙ ap (λ (l : List ℕ). r ++ l) (sym (behind b r rest (s .«at») e) ∙ ap (λ (k : ℕ). drop k b) (sym p));
   past = p;
@@ -65,29 +68,31 @@ pub differ : {P : Type 0} (f g : Found) → f ≡ g → (sort f ≡ sort g → �
 differ f g e n = absurd (n (ap sort e))
 
 module _ {b : List ℕ} {s : State} where
-  sheet-moved : {r : StepAnswer} → Stepped b s r → (h : Sheet) → r .«found» ≡ found.Sheet h →
-      (l : List ℕ) × OneRecord which.Sheet b s (r .«next») l × (h ≡ sheetOf l) × (r .«next» .«sheet_read» ≡ true) × (r .«next» .«sheet» ≡ h) × (r .«next» .«count» ≡ s .«count»)
+  sheet-moved : {a : StepAnswer} → Stepped b s a → (h : Sheet) → a .«found» ≡ found.Sheet h →
+      (r : List ℕ) × OneRecord records.Sheet b s (a .«next») r × (h ≡ sheetOf r) × (a .«next» ≡ pastSheet s r) × (s .«sheet_read» ≡ false) × (passesChecks h ≡ true)
   unfolding refusedStep
   sheet-moved (refused why offset) h e = differ _ _ e (λ z. omega arith)
-  sheet-moved (sheet l rest i at unread ok) h e = let h-is = sym (ap sheetIn e) in (l, one-record which.Sheet b s _ l rest i at refl, h-is, refl, sym h-is, refl)
-  sheet-moved (place l rest i at read few room ok) h e = differ _ _ e (λ z. omega arith)
-  sheet-moved (end l i at read same) h e = differ _ _ e (λ z. omega arith)
+  sheet-moved (sheet r rest i at unread ok) h e =
+      let same = ap sheetIn e in
+      (r, one-record records.Sheet b s _ r rest i at refl, sym same, refl, unread, subst (λ (h : Sheet). passesChecks h ≡ true) same ok)
+  sheet-moved (place r rest i at read few room ok) h e = differ _ _ e (λ z. omega arith)
+  sheet-moved (end r i at read same) h e = differ _ _ e (λ z. omega arith)
 
-  place-moved : {r : StepAnswer} → Stepped b s r → r .«found» ≡ found.Place →
-      (l : List ℕ) × OneRecord which.Place b s (r .«next») l × (r .«place» ≡ placeOf l) × (r .«next» .«sheet» ≡ s .«sheet») × (r .«next» .«count» ≡ s .«count» + 1) × (r .«next» .«last_id» ≡ r .«place» .«id»)
+  place-moved : {a : StepAnswer} → Stepped b s a → a .«found» ≡ found.Place →
+      (r : List ℕ) × OneRecord records.Place b s (a .«next») r × (a .«place» ≡ placeOf r) × (a .«next» ≡ pastPlace s r) × (s .«sheet_read» ≡ true) × (s .«count» < mostPlaces) × (s .«count» < s .«room») × (allHold (placeRules (s .«sheet») (s .«count») (s .«last_id») (a .«place»)) ≡ true)
   unfolding refusedStep
   place-moved (refused why offset) e = differ _ _ e (λ z. omega arith)
-  place-moved (sheet l rest i at unread ok) e = differ _ _ e (λ z. omega arith)
-  place-moved (place l rest i at read few room ok) e = (l, one-record which.Place b s _ l rest i at refl, refl, refl, refl, refl)
-  place-moved (end l i at read same) e = differ _ _ e (λ z. omega arith)
+  place-moved (sheet r rest i at unread ok) e = differ _ _ e (λ z. omega arith)
+  place-moved (place r rest i at read few room ok) e = (r, one-record records.Place b s _ r rest i at refl, refl, refl, read, few, room, ok)
+  place-moved (end r i at read same) e = differ _ _ e (λ z. omega arith)
 
-  end-is-last′ : {r : StepAnswer} → Stepped b s r → (count : ℕ) → r .«found» ≡ found.End count →
-      (l : List ℕ) × IsRecord which.End l × (drop (s .«at») b ≡ l) × (count ≡ endOf l) × (count ≡ s .«count»)
+  last-end : {a : StepAnswer} → Stepped b s a → (count : ℕ) → a .«found» ≡ found.End count →
+      (r : List ℕ) × IsRecord records.End r × (drop (s .«at») b ≡ r) × (s .«sheet_read» ≡ true) × (count ≡ endOf r) × (count ≡ s .«count»)
   unfolding refusedStep
-  end-is-last′ (refused why offset) count e = differ _ _ e (λ z. omega arith)
-  end-is-last′ (sheet l rest i at unread ok) count e = differ _ _ e (λ z. omega arith)
-  end-is-last′ (place l rest i at read few room ok) count e = differ _ _ e (λ z. omega arith)
-  end-is-last′ (end l i at read same) count e = let c-is = sym (ap countIn e) in (l, i, at, c-is, c-is ∙ same)
+  last-end (refused why offset) count e = differ _ _ e (λ z. omega arith)
+  last-end (sheet r rest i at unread ok) count e = differ _ _ e (λ z. omega arith)
+  last-end (place r rest i at read few room ok) count e = differ _ _ e (λ z. omega arith)
+  last-end (end r i at read same) count e = let c-is = sym (ap countIn e) in (r, i, at, read, c-is, c-is ∙ same)
 
   stayed : {r : StepAnswer} → Stepped b s r → goesOn (r .«found») ≡ false → r .«next» ≡ s
   unfolding refusedStep
@@ -100,8 +105,8 @@ module _ {b : List ℕ} {s : State} where
   pub leads : {r : StepAnswer} → Stepped b s r → goesOn (r .«found») ≡ true → (s .«at» < r .«next» .«at») × (r .«next» .«at» ≤ length b)
   unfolding refusedStep
   leads (refused why offset) e = absurd (true≢false (sym e))
-  leads (sheet l rest i at unread ok) e = further which.Sheet b l rest (s .«at») i at
-  leads (place l rest i at read few room ok) e = further which.Place b l rest (s .«at») i at
+  leads (sheet l rest i at unread ok) e = further records.Sheet b l rest (s .«at») i at
+  leads (place l rest i at read few room ok) e = further records.Place b l rest (s .«at») i at
   leads (end l i at read same) e = absurd (true≢false (sym e))
 
 pub sheet-moves : SheetMoves
@@ -111,7 +116,7 @@ pub place-moves : PlaceMoves
 place-moves b s = place-moved (view b s)
 
 pub end-is-last : EndIsLast
-end-is-last b s = end-is-last′ (view b s)
+end-is-last b s = last-end (view b s)
 
 pub stays : Stays
 stays b s = stayed (view b s)

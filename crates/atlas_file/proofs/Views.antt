@@ -16,7 +16,7 @@ use Rattle.refusal.specs.Rules.{Rule, _else-refuse_, allHold}
 use Rattle.refusal.proofs.InOrder.{by-outcome, both-hold}
 use Rattle.sheet.specs.Sheets.{sheetRules}
 use Rattle.records.specs.declared.Record.{Record}
-use Rattle.records.specs.declared.Record.the-variants as which
+use Rattle.records.specs.declared.Record.the-variants as records
 use Rattle.records.specs.declared.Layout.{Layout}
 use Rattle.records.specs.declared.Layout.the-variants.{Known, Refused}
 use Rattle.records.specs.Records.{layoutOf, IsRecord, sheetOf, placeOf, endOf}
@@ -29,12 +29,12 @@ use Rattle.place.specs.Places.{blankPlace}
 
 pub data Stepped (b : List ℕ) (s : State) : StepAnswer → Type 0 where
   refused : (why : Refusal) (offset : ℕ) → Stepped b s (refusedStep s why offset)
-  sheet : (r rest : List ℕ) → IsRecord which.Sheet r → drop (s .«at») b ≡ r ++ rest → s .«sheet_read» ≡ false → allHold (sheetRules (sheetOf r)) ≡ true →
+  sheet : (r rest : List ℕ) → IsRecord records.Sheet r → drop (s .«at») b ≡ r ++ rest → s .«sheet_read» ≡ false → allHold (sheetRules (sheetOf r)) ≡ true →
       Stepped b s (record { «found» = found.Sheet (sheetOf r); «place» = blankPlace; «next» = pastSheet s r })
-  place : (r rest : List ℕ) → IsRecord which.Place r → drop (s .«at») b ≡ r ++ rest → s .«sheet_read» ≡ true → s .«count» < mostPlaces → s .«count» < s .«room» →
+  place : (r rest : List ℕ) → IsRecord records.Place r → drop (s .«at») b ≡ r ++ rest → s .«sheet_read» ≡ true → s .«count» < mostPlaces → s .«count» < s .«room» →
       allHold (placeRules (s .«sheet») (s .«count») (s .«last_id») (placeOf r)) ≡ true →
       Stepped b s (record { «found» = found.Place; «place» = placeOf r; «next» = pastPlace s r })
-  end : (r : List ℕ) → IsRecord which.End r → drop (s .«at») b ≡ r → s .«sheet_read» ≡ true → endOf r ≡ s .«count» →
+  end : (r : List ℕ) → IsRecord records.End r → drop (s .«at») b ≡ r → s .«sheet_read» ≡ true → endOf r ≡ s .«count» →
       Stepped b s (record { «found» = found.End (endOf r); «place» = blankPlace; «next» = s })
 
 -- one rule that holds
@@ -42,7 +42,7 @@ first-holds : (t : Bool) (rules : List Rule) → (t && allHold rules) ≡ true �
 first-holds t rules e = and-elim-left t (allHold rules) e
 
 -- a place that is due: the sheet is read, and there is room
-pub place-due : (s : State) → allHold (dueRules which.Place s) ≡ true → (s .«sheet_read» ≡ true) × (s .«count» < mostPlaces) × (s .«count» < s .«room»)
+pub place-due : (s : State) → allHold (dueRules records.Place s) ≡ true → (s .«sheet_read» ≡ true) × (s .«count» < mostPlaces) × (s .«count» < s .«room»)
 unfolding dueRules
 place-due s due =
     let rooms = first-holds _ [] (and-elim-right (s .«sheet_read») _ due) in
@@ -66,40 +66,40 @@ module _ (b : List ℕ) (s : State) (body : ℕ) (whole : ltb body (length (drop
       ∙ getD-drop (s .«at») b 0 0
       ∙ ap (λ (k : ℕ). getD b k 0) (add-zero (s .«at»))
 
-  pub a-record : (kind : Record) → layoutOf (getD b (s .«at») 0) ≡ Known kind body → IsRecord kind r
-  a-record kind e = record { body = body; kind = ap layoutOf first-byte ∙ e; whole = is-whole }
+  pub a-record : (which : Record) → layoutOf (getD b (s .«at») 0) ≡ Known which body → IsRecord which r
+  a-record which e = record { body = body; layout = ap layoutOf first-byte ∙ e; whole = is-whole }
 
-  content-view : (kind : Record) → layoutOf (getD b (s .«at») 0) ≡ Known kind body → allHold (dueRules kind s) ≡ true →
-      Stepped b s (contentStep kind r (ltb (suc body) (length (drop (s .«at») b))) s)
+  content-view : (which : Record) → layoutOf (getD b (s .«at») 0) ≡ Known which body → allHold (dueRules which s) ≡ true →
+      Stepped b s (contentStep which r (ltb (suc body) (length (drop (s .«at») b))) s)
   unfolding contentStep dueRules sheetStep placeStep endStep
-  content-view which.Sheet e due =
+  content-view records.Sheet e due =
       by-outcome StepAnswer (Stepped b s) (sheetRules (sheetOf r)) _ _
-      (λ h. sheet r _ (a-record which.Sheet e) splits (not-true _ (first-holds _ [] due)) h)
+      (λ h. sheet r _ (a-record records.Sheet e) splits (not-true _ (first-holds _ [] due)) h)
       (λ why. refused why _)
-  content-view which.Place e due =
+  content-view records.Place e due =
       let d = place-due s due in
       by-outcome StepAnswer (Stepped b s) (placeRules (s .«sheet») (s .«count») (s .«last_id») (placeOf r)) _ _
-      (λ h. place r _ (a-record which.Place e) splits (d .0) (d .1) (d .2) h)
+      (λ h. place r _ (a-record records.Place e) splits (d .0) (d .1) (d .2) h)
       (λ why. refused why _)
-  content-view which.End e due =
+  content-view records.End e due =
       by-outcome StepAnswer (Stepped b s) (endRules r s) _ _
       (λ same. by-outcome StepAnswer (Stepped b s) (lastRules (ltb (suc body) (length (drop (s .«at») b)))) _ _
       (λ last.
       let short : length (drop (s .«at») b) ≤ suc body = ltb-false _ _ (not-true _ (first-holds _ [] last)) in
-      end r (a-record which.End e) (sym (take-all (suc body) (drop (s .«at») b) short)) (first-holds _ [] due) (eqb-true _ _ (first-holds _ [] same)))
+      end r (a-record records.End e) (sym (take-all (suc body) (drop (s .«at») b) short)) (first-holds _ [] due) (eqb-true _ _ (first-holds _ [] same)))
       (λ why. refused why (s .«at» + length r)))
       (λ why. refused why (s .«at»))
 
-record-view : (b : List ℕ) (s : State) (kind : Record) (body : ℕ) → layoutOf (getD b (s .«at») 0) ≡ Known kind body →
-    Stepped b s (recordStep kind body (drop (s .«at») b) s)
+record-view : (b : List ℕ) (s : State) (which : Record) (body : ℕ) → layoutOf (getD b (s .«at») 0) ≡ Known which body →
+    Stepped b s (recordStep which body (drop (s .«at») b) s)
 unfolding recordStep
-record-view b s kind body e =
-    by-outcome StepAnswer (Stepped b s) (dueRules kind s ++ ((ltb body (length (drop (s .«at») b)) else-refuse _) ∷ [])) _ _
-    (λ h. let hs = both-hold (dueRules kind s) _ h in content-view b s body (first-holds _ [] (hs .1)) kind e (hs .0))
+record-view b s which body e =
+    by-outcome StepAnswer (Stepped b s) (dueRules which s ++ ((ltb body (length (drop (s .«at») b)) else-refuse _) ∷ [])) _ _
+    (λ h. let hs = both-hold (dueRules which s) _ h in content-view b s body (first-holds _ [] (hs .1)) which e (hs .0))
     (λ why. refused why _)
 
 layout-view : (b : List ℕ) (s : State) (l : Layout) → layoutOf (getD b (s .«at») 0) ≡ l → Stepped b s (layoutStep l (drop (s .«at») b) s)
-layout-view b s (Known kind body) e = record-view b s kind body e
+layout-view b s (Known which body) e = record-view b s which body e
 layout-view b s (Refused why) e = refused why _
 
 pub view : (b : List ℕ) (s : State) → Stepped b s (stepOf b s)

@@ -35,23 +35,16 @@ abbrev pub fileReplyOf : FileAnswer → FileReply
 fileReplyOf (answer.Atlas count s) = acceptedFile count s
 fileReplyOf (answer.Refused why offset) = refusedFile why offset
 
--- of a step's answer too; the place is beside it
-abbrev pub foundReplyOf : Found → FileReply
-foundReplyOf (found.Sheet s) = acceptedFile 0 s
-foundReplyOf found.Place = acceptedFile 0 blankSheet
-foundReplyOf (found.End count) = acceptedFile count blankSheet
-foundReplyOf (found.Refused why offset) = refusedFile why offset
-
 -- What reading gives: the reply, and the places in the order of the file; none where it is refused.
 pub record Reading : Type 0 where
   pub reply : FileReply
   pub places : List Place
 
-abbrev pub readWhole : (count : ℕ) → Sheet → List Place → Reading
-readWhole count s places = record { reply = acceptedFile count s; places = places }
+abbrev pub acceptedReading : (count : ℕ) → Sheet → List Place → Reading
+acceptedReading count s places = record { reply = acceptedFile count s; places = places }
 
-abbrev pub readRefused : Refusal → (offset : ℕ) → Reading
-readRefused why offset = record { reply = refusedFile why offset; places = [] }
+abbrev pub refusedReading : Refusal → (offset : ℕ) → Reading
+refusedReading why offset = record { reply = refusedFile why offset; places = [] }
 
 -- before the first record: nothing is read
 unfoldable pub startOf : (room : ℕ) → State
@@ -66,13 +59,13 @@ goesOn (found.Refused why offset) = false
 
 -- from a state on, after some places: step by step to the end or the first refusal, with a bound on the steps
 unfoldable pub readFrom : (steps : ℕ) → List ℕ → State → List Place → Reading
-readFrom zero b s places = readRefused Cut (s .«at»)
+readFrom zero b s places = refusedReading Cut (s .«at»)
 readFrom (suc steps) b s places =
     elim (stepOf b s .«found») [
       | found.Sheet h ↦ readFrom steps b (stepOf b s .«next») places
       | found.Place ↦ readFrom steps b (stepOf b s .«next») (places ++ (stepOf b s .«place» ∷ []))
-      | found.End count ↦ readWhole count (s .«sheet») places
-      | found.Refused why offset ↦ readRefused why offset
+      | found.End count ↦ acceptedReading count (s .«sheet») places
+      | found.Refused why offset ↦ refusedReading why offset
     ]
 
 -- a file, for a table with so much room. Each record has a byte or more, so that the bound is never reached (Laws: BoundNeverReached).

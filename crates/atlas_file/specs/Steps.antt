@@ -6,16 +6,20 @@ use lib.ListN.{getD, length, take, drop}
 use lib.Dec.{eqb, ltb}
 use Rattle.refusal.specs.declared.Refusal.{Refusal}
 use Rattle.refusal.specs.declared.Refusal.the-variants.{Cut, Kind, TrailingBytes, EndCount, NoRoom}
+use Rattle.refusal.specs.Numbers.{numberOf}
 use Rattle.refusal.specs.Rules.{Rule, _else-refuse_, outcome}
+use Rattle.sheet.specs.declared.Sheet.{Sheet}
 use Rattle.sheet.specs.Sheets.{sheetRules}
 use Rattle.records.specs.declared.Record.{Record}
-use Rattle.records.specs.declared.Record.the-variants as which
+use Rattle.records.specs.declared.Record.the-variants as records
 use Rattle.records.specs.declared.Layout.{Layout}
 use Rattle.records.specs.declared.Layout.the-variants.{Known, Refused}
-use Rattle.records.specs.Records.{layoutOf, sheetOf, placeOf, endOf}
+use Rattle.records.specs.Records.{layoutOf, blankSheet, sheetOf, placeOf, endOf}
 use Rattle.atlas_file.specs.declared.State.{State}
+use Rattle.atlas_file.specs.declared.Found.{Found}
 use Rattle.atlas_file.specs.declared.Found.the-variants as found
 use Rattle.atlas_file.specs.declared.StepAnswer.{StepAnswer}
+use Rattle.place.specs.declared.Place.{Place}
 use Rattle.place.specs.Places.{blankPlace, placeRules}
 
 -- 0 to 1,000 places
@@ -32,9 +36,9 @@ refusedHere s why = refusedStep s why (s .«at»)
 
 -- one sheet first, then places, one end: kind not due there, 2; a place when 1,000 are read or the caller's table is full, 10
 unfoldable pub dueRules : Record → State → List Rule
-dueRules which.Sheet s = (not (s .«sheet_read») else-refuse Kind) ∷ []
-dueRules which.Place s = (s .«sheet_read» else-refuse Kind) ∷ (ltb (s .«count») mostPlaces && ltb (s .«count») (s .«room») else-refuse NoRoom) ∷ []
-dueRules which.End s = (s .«sheet_read» else-refuse Kind) ∷ []
+dueRules records.Sheet s = (not (s .«sheet_read») else-refuse Kind) ∷ []
+dueRules records.Place s = (s .«sheet_read» else-refuse Kind) ∷ (ltb (s .«count») mostPlaces && ltb (s .«count») (s .«room») else-refuse NoRoom) ∷ []
+dueRules records.End s = (s .«sheet_read» else-refuse Kind) ∷ []
 
 -- the state past a sheet, of its record r, and past a place
 abbrev pub pastSheet : State → (r : List ℕ) → State
@@ -74,22 +78,46 @@ endStep r more s =
     (refusedHere s)
 
 unfoldable pub contentStep : Record → (r : List ℕ) (more : Bool) → State → StepAnswer
-contentStep which.Sheet r more s = sheetStep r s
-contentStep which.Place r more s = placeStep r s
-contentStep which.End r more s = endStep r more s
+contentStep records.Sheet r more s = sheetStep r s
+contentStep records.Place r more s = placeStep r s
+contentStep records.End r more s = endStep r more s
 
 -- a record with a body of so many bytes, at the front of the bytes that are left: due, 2 and 10; body short, 1; then what it holds
 unfoldable pub recordStep : Record → (body : ℕ) (left : List ℕ) → State → StepAnswer
-recordStep kind body left s =
-    outcome (dueRules kind s ++ ((ltb body (length left) else-refuse Cut) ∷ []))
-    (contentStep kind (take (suc body) left) (ltb (suc body) (length left)) s)
+recordStep which body left s =
+    outcome (dueRules which s ++ ((ltb body (length left) else-refuse Cut) ∷ []))
+    (contentStep which (take (suc body) left) (ltb (suc body) (length left)) s)
     (refusedHere s)
 
 -- its kind byte fixes which record it is and how long; kind unknown, 2
 abbrev pub layoutStep : Layout → (left : List ℕ) → State → StepAnswer
-layoutStep (Known kind body) left s = recordStep kind body left s
+layoutStep (Known which body) left s = recordStep which body left s
 layoutStep (Refused why) left s = refusedHere s why
 
 -- the step: no kind byte, 1
 unfoldable pub stepOf : List ℕ → State → StepAnswer
 stepOf b s = outcome ((ltb (s .«at») (length b) else-refuse Cut) ∷ []) (layoutStep (layoutOf (getD b (s .«at») 0)) (drop (s .«at») b) s) (refusedHere s)
+
+-- What comes back of a step: the number of the refusal (0 of a record) and the offset; which record it is (1 sheet, 2 place, 3 end; 0 of a refusal), its sheet, place or count; and the state after it.
+pub record StepReply : Type 0 where
+  pub number : ℕ
+  pub offset : ℕ
+  pub kind : ℕ
+  pub sheet : Sheet
+  pub place : Place
+  pub count : ℕ
+  pub next : State
+
+abbrev pub foundReply : Found → Place → State → StepReply
+foundReply (found.Sheet h) p next = record { number = 0; offset = 0; kind = 1; sheet = h; place = p; count = 0; next = next }
+foundReply found.Place p next = record { number = 0; offset = 0; kind = 2; sheet = blankSheet; place = p; count = 0; next = next }
+foundReply (found.End count) p next = record { number = 0; offset = 0; kind = 3; sheet = blankSheet; place = p; count = count; next = next }
+foundReply (found.Refused why offset) p next = record { number = numberOf why; offset = offset; kind = 0; sheet = blankSheet; place = p; count = 0; next = next }
+
+-- the number and the values that an answer stands for
+abbrev pub stepReplyOf : StepAnswer → StepReply
+stepReplyOf a = foundReply (a .«found») (a .«place») (a .«next»)
+
+-- what a step comes to
+abbrev pub stepReply : List ℕ → State → StepReply
+stepReply b s = stepReplyOf (stepOf b s)

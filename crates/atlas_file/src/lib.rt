@@ -12,10 +12,10 @@ ghost use Rattle.refusal.specs.Numbers.{accepted};
 ghost use Rattle.refusal.specs.Rules.{inOrder, allHold};
 ghost use Rattle.sheet.specs.Sheets.{passesChecks, replyOf};
 ghost use Rattle.records.specs.Records.{layoutOf, IsRecord};
-ghost use Rattle.records.specs.declared.Record.the-variants as which;
+ghost use Rattle.records.specs.declared.Record.the-variants as records;
 ghost use Rattle.records.specs.declared.Layout.the-variants.{Known};
 ghost use Rattle.place.specs.Places.{placeReply};
-ghost use Rattle.atlas_file.specs.Steps.{mostPlaces, refusedStep, dueRules, sheetStep, placeStep, endStep, contentStep, recordStep, stepOf};
+ghost use Rattle.atlas_file.specs.Steps.{mostPlaces, refusedStep, dueRules, sheetStep, placeStep, endStep, contentStep, recordStep, stepOf, stepReplyOf, stepReply};
 use place::Place;
 pub use reading::FileAnswer;
 pub use reading::read_through;
@@ -63,7 +63,7 @@ pub struct StepAnswer {
 
 // Reads the record at a state, which may be any: 1, 2, 10, 1; a sheet 4, 5; a place 6, 7, 8, 14; the end 9, 3.
 pub fn step(bytes: &[u8], state: State) -> StepAnswer
-    ensures { λ r. ⌜ r ≡ stepOf (now (bytes .entry)) state ⌝ }
+    ensures { λ r. ⌜ stepReplyOf r ≡ stepReply (now (bytes .entry)) state ⌝ }
 {
     step_unchecked(bytes, state, false)
 }
@@ -85,14 +85,14 @@ fn step_unchecked(bytes: &[u8], state: State, checked: bool) -> StepAnswer
 }
 
 // The record whose kind is known.
-fn record_step(bytes: &[u8], state: State, checked: bool, kind: Record, body: usize) -> StepAnswer
+fn record_step(bytes: &[u8], state: State, checked: bool, which: Record, body: usize) -> StepAnswer
     requires { ⌜ (checked ≡ true → passesChecks (state .sheet) ≡ true) ⌝ }
     requires { ⌜ state .at < length (now bytes) ⌝ }
-    requires { ⌜ layoutOf (getD (now bytes) (state .at) 0) ≡ Known kind body ⌝ }
-    ensures { λ r. ⌜ r ≡ recordStep kind body (drop (state .at) (now (bytes .entry))) state ⌝ }
+    requires { ⌜ layoutOf (getD (now bytes) (state .at) 0) ≡ Known which body ⌝ }
+    ensures { λ r. ⌜ r ≡ recordStep which body (drop (state .at) (now (bytes .entry))) state ⌝ }
 {
     let at = state.at;
-    let verdict = due(state, kind);
+    let verdict = due(state, which);
     match verdict {
         Verdict::Good => {
             let left = bytes.len() - at;
@@ -101,20 +101,20 @@ fn record_step(bytes: &[u8], state: State, checked: bool, kind: Record, body: us
             }
             let end = at + 1 + body;
             let more = end < bytes.len();
-            content_step(&bytes[at..end], end, more, state, checked, kind)
+            content_step(&bytes[at..end], end, more, state, checked, which)
         }
         Verdict::Refused(r) => refused(state, r, at),
     }
 }
 
 // Whether a record is due at a state (2), and a place has room (10).
-fn due(state: State, kind: Record) -> Verdict
-    ensures { λ r. ⌜ replyOf r ≡ inOrder 0 (dueRules kind state) (accepted []) ⌝ }
+fn due(state: State, which: Record) -> Verdict
+    ensures { λ r. ⌜ replyOf r ≡ inOrder 0 (dueRules which state) (accepted []) ⌝ }
 {
     let read = state.sheet_read;
     let count = state.count;
     let room = state.room;
-    match kind {
+    match which {
         Record::Sheet => {
             if read {
                 Verdict::Refused(Refusal::Kind)
@@ -150,15 +150,15 @@ fn content_step(
     more: bool,
     state: State,
     checked: bool,
-    kind: Record,
+    which: Record,
 ) -> StepAnswer
     requires { ⌜ (checked ≡ true → passesChecks (state .sheet) ≡ true) ⌝ }
-    requires { ⌜ IsRecord kind (now bytes) ⌝ }
+    requires { ⌜ IsRecord which (now bytes) ⌝ }
     requires { ⌜ end ≡ state .at + length (now bytes) ⌝ }
-    requires { ⌜ allHold (dueRules kind state) ≡ true ⌝ }
-    ensures { λ r. ⌜ r ≡ contentStep kind (now (bytes .entry)) more state ⌝ }
+    requires { ⌜ allHold (dueRules which state) ≡ true ⌝ }
+    ensures { λ r. ⌜ r ≡ contentStep which (now (bytes .entry)) more state ⌝ }
 {
-    match kind {
+    match which {
         Record::Sheet => sheet_step(bytes, end, state),
         Record::Place => place_step(bytes, end, state, checked),
         Record::End => end_step(bytes, end, more, state),
@@ -166,7 +166,7 @@ fn content_step(
 }
 
 fn sheet_step(bytes: &[u8], end: usize, state: State) -> StepAnswer
-    requires { ⌜ IsRecord which.Sheet (now bytes) ⌝ }
+    requires { ⌜ IsRecord records.Sheet (now bytes) ⌝ }
     requires { ⌜ end ≡ state .at + length (now bytes) ⌝ }
     ensures { λ r. ⌜ r ≡ sheetStep (now (bytes .entry)) state ⌝ }
 {
@@ -197,7 +197,7 @@ fn sheet_step(bytes: &[u8], end: usize, state: State) -> StepAnswer
 
 fn place_step(bytes: &[u8], end: usize, state: State, checked: bool) -> StepAnswer
     requires { ⌜ (checked ≡ true → passesChecks (state .sheet) ≡ true) ⌝ }
-    requires { ⌜ IsRecord which.Place (now bytes) ⌝ }
+    requires { ⌜ IsRecord records.Place (now bytes) ⌝ }
     requires { ⌜ end ≡ state .at + length (now bytes) ⌝ }
     requires { ⌜ state .count < mostPlaces ⌝ }
     ensures { λ r. ⌜ r ≡ placeStep (now (bytes .entry)) state ⌝ }
@@ -241,7 +241,7 @@ fn verdict_for(state: State, checked: bool, place: Place) -> Verdict
 }
 
 fn end_step(bytes: &[u8], end: usize, more: bool, state: State) -> StepAnswer
-    requires { ⌜ IsRecord which.End (now bytes) ⌝ }
+    requires { ⌜ IsRecord records.End (now bytes) ⌝ }
     requires { ⌜ end ≡ state .at + length (now bytes) ⌝ }
     ensures { λ r. ⌜ r ≡ endStep (now (bytes .entry)) more state ⌝ }
 {

@@ -11,8 +11,8 @@ use Rattle.place.specs.Places.{placeRulesAt, placeRules}
 use Rattle.atlas_file.specs.Steps.{refusedStep, dueRules, sheetStep, placeStep, endStep, contentStep, recordStep, stepOf}
 use Rattle.atlas_file.specs.Reading.{Reading, startOf, readFrom, readOf}
 use Rattle.atlas_file.specs.Writing.{placeRecords, fileOf, placesRules, listRules, writeRules}
-use Rattle.atlas_file.proofs.Cuts.{cut-refused}
-use Rattle.examples.specs.Files.{millFile, MillLength, MillRead, MillCut, NothingRead, ShortBuffer}
+use Rattle.integrity.proofs.Cuts.{cut-refused}
+use Rattle.examples.specs.Files.{millFile, MillLength, MillRead, MillCut, NothingRead, ShortBuffer, WriterOrder}
 
 pub mill-length : MillLength
 unfolding fileOf sheetRecord placeRecords placeRecord endRecord numbersBytes u32Bytes unsigned
@@ -42,3 +42,10 @@ unfolding angleOf squareOf seriesOf sineOf cosineOf
     u32Bytes unsigned numbersBytes isName sheetRecord placeRecord endRecord
     placeRulesAt placeRules placeRecords fileOf placesRules listRules writeRules
 short-buffer = refl
+
+pub writer-order : WriterOrder
+unfolding angleOf squareOf seriesOf sineOf cosineOf
+    withinLimits coneAngleOf coneAgrees radiusAgrees constantsAgree sheetRules shifted offsetOf onSheet positionRules tOf xAt yAt xOf yOf
+    u32Bytes unsigned numbersBytes isName sheetRecord placeRecord endRecord
+    placeRulesAt placeRules placeRecords fileOf placesRules listRules writeRules
+writer-order = refl

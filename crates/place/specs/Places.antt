@@ -22,7 +22,7 @@ blankPlace = record { «id» = 0; «latitude» = pos 0; «longitude» = pos 0; �
 abbrev pub rises : (count last id : ℕ) → Bool
 rises count last id = eqb count 0 || ltb last id
 
--- the reply of globe to map has these values and no others: no unit is given away
+-- x, y are exactly those of globe to map's reply: between x and x, and between y and y
 abbrev pub isAt : Reply → (x y : ℤ) → Bool
 isAt position x y =
     let values = position .values in

@@ -27,7 +27,7 @@ pub struct Place {
     // Where it lies on its sheet's map.
     pub x: i32,
     pub y: i32,
-    // 1 to 16 bytes of value 32 to 126, then zeros.
+    // A good name is 1 to 16 bytes of value 32 to 126, then zeros: see is_name.
     pub name: [u8; 16],
 }
 

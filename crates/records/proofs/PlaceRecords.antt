@@ -1,16 +1,17 @@
 -- The laws of a place's record and of the end record. Assumes nothing.
-use mathlib.Core.Path.{_≡_, refl, sym}
+use mathlib.Core.Path.{_≡_, refl, sym, ap, _∙_}
 use mathlib.Core.List.{[]}
 use native.Mathlib.Omega.{arith}
-use lib.ListN.{drop, length-drop, length-take, drop-of-length-le}
+use Prim.Native.Nat.{suc}
+use lib.ListN.{getD, drop, length-drop, length-take, drop-of-length-le}
 use lib.Seq.{take-all}
 use Rattle.place.specs.declared.Place.{Place}
-use Rattle.records.specs.declared.Record.the-variants as which
+use Rattle.records.specs.declared.Record.the-variants as records
 use Rattle.records.specs.Numbers.{i32At, u32Bytes, numbersBytes}
 use Rattle.records.specs.Records.{layoutOf, placeOf, placeRecord, endOf, endRecord}
 use Rattle.records.specs.Laws.{PlaceKind, PlaceBack, PlaceForth, PlaceLength, PlaceDecoded, EndKind, EndBack, EndForth, EndLength}
 use Rattle.records.proofs.NumberLaws.{u32-back, i32-back, u32-below, i32-below, u32-then, i32-then}
-use Rattle.records.proofs.KindBytes.{has-length, whole-record}
+use Rattle.records.proofs.KindBytes.{row, whole-record}
 
 -- two of them are the same where their fields are
 pub place-is : {s t : Place} →
@@ -25,7 +26,7 @@ place-is p1 p2 p3 p4 p5 p6 = λ i. record { «id» = p1 i; «latitude» = p2 i; 
 
 pub place-kind : PlaceKind
 unfolding layoutOf placeRecord numbersBytes u32Bytes
-place-kind p e = record { body = 36; kind = refl; whole = omega arith }
+place-kind p e = record { body = 36; layout = refl; whole = omega arith }
 
 pub place-back : PlaceBack
 unfolding placeOf placeRecord numbersBytes i32At u32Bytes
@@ -39,13 +40,13 @@ place-back p h =
     (take-all 16 (p .«name») (omega (arith, h .name)))
 
 pub place-length : PlaceLength
-place-length r k = has-length which.Place r k
+place-length r k = k .whole ∙ ap suc (row records.Place (getD r 0 0) (k .body) (k .layout) .1)
 
 pub place-forth : PlaceForth
 unfolding placeOf placeRecord numbersBytes u32Bytes
 place-forth r k b =
     let n = place-length r k in
-    whole-record which.Place r k
+    whole-record 2 (row records.Place (getD r 0 0) (k .body) (k .layout) .0) (omega arith)
     (u32-then r b 1 (omega arith)
     (i32-then r b 5 (omega arith)
     (i32-then r b 9 (omega arith)
@@ -66,17 +67,17 @@ place-decoded r k b = record {
 
 pub end-kind : EndKind
 unfolding layoutOf endRecord numbersBytes u32Bytes
-end-kind count = record { body = 4; kind = refl; whole = refl }
+end-kind count = record { body = 4; layout = refl; whole = refl }
 
 pub end-back : EndBack
 unfolding endOf endRecord numbersBytes u32Bytes
 end-back count h = u32-back count [] h
 
 pub end-length : EndLength
-end-length r k = has-length which.End r k
+end-length r k = k .whole ∙ ap suc (row records.End (getD r 0 0) (k .body) (k .layout) .1)
 
 pub end-forth : EndForth
 unfolding endOf endRecord numbersBytes
 end-forth r k b =
     let n = end-length r k in
-    whole-record which.End r k (u32-then r b 1 (omega arith) (sym (drop-of-length-le r {i = 5} (omega arith))))
+    whole-record 3 (row records.End (getD r 0 0) (k .body) (k .layout) .0) (omega arith) (u32-then r b 1 (omega arith) (sym (drop-of-length-le r {i = 5} (omega arith))))

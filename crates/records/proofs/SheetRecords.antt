@@ -1,15 +1,16 @@
 -- The laws of a sheet's record. Assumes nothing.
-use mathlib.Core.Path.{_≡_, refl, sym}
-use mathlib.Core.List.{[]}
+use mathlib.Core.Path.{_≡_, refl, sym, ap, _∙_}
+use mathlib.Core.List.{List, []}
 use native.Mathlib.Omega.{arith}
-use lib.ListN.{drop-of-length-le}
+use Prim.Native.Nat.{ℕ, suc}
+use lib.ListN.{getD, length, drop-of-length-le}
 use Rattle.sheet.specs.declared.Sheet.{Sheet}
-use Rattle.records.specs.declared.Record.the-variants as which
+use Rattle.records.specs.declared.Record.the-variants as records
 use Rattle.records.specs.Numbers.{i32At, u32Bytes, numbersBytes}
-use Rattle.records.specs.Records.{layoutOf, sheetOf, sheetRecord}
+use Rattle.records.specs.Records.{layoutOf, IsRecord, sheetOf, sheetRecord}
 use Rattle.records.specs.Laws.{SheetKind, SheetBack, SheetForth, SheetLength, SheetMost, SheetDecoded}
 use Rattle.records.proofs.NumberLaws.{u32-back, i32-back, u32-below, i32-below, u32-then, i32-then}
-use Rattle.records.proofs.KindBytes.{has-length, whole-record}
+use Rattle.records.proofs.KindBytes.{row, whole-record}
 
 -- two of them are the same where their fields are
 pub sheet-is : {s t : Sheet} →
@@ -37,7 +38,7 @@ sheet-is p1 p2 p3 p4 p5 p6 p7 p8 p9 = λ i. record {
 
 pub sheet-kind : SheetKind
 unfolding layoutOf sheetRecord numbersBytes u32Bytes
-sheet-kind s = record { body = 36; kind = refl; whole = refl }
+sheet-kind s = record { body = 36; layout = refl; whole = refl }
 
 pub sheet-back : SheetBack
 unfolding sheetOf sheetRecord numbersBytes i32At u32Bytes
@@ -53,11 +54,15 @@ sheet-back s h =
     (u32-back _ [] (h .n))
     (i32-back _ [] (h .g))
 
+-- today all have one length
+pub has-length : (r : List ℕ) → IsRecord records.Sheet r → length r ≡ 37
+has-length r k = k .whole ∙ ap suc (row records.Sheet (getD r 0 0) (k .body) (k .layout) .1)
+
 pub sheet-forth : SheetForth
 unfolding sheetOf sheetRecord numbersBytes
 sheet-forth r k b =
-    let n = has-length which.Sheet r k in
-    whole-record which.Sheet r k
+    let n = has-length r k in
+    whole-record 1 (row records.Sheet (getD r 0 0) (k .body) (k .layout) .0) (omega arith)
     (i32-then r b 1 (omega arith)
     (i32-then r b 5 (omega arith)
     (i32-then r b 9 (omega arith)
@@ -71,10 +76,10 @@ sheet-forth r k b =
 
 pub sheet-length : SheetLength
 unfolding sheetRecord numbersBytes u32Bytes
-sheet-length r k = sym (has-length which.Sheet r k)
+sheet-length r k = sym (has-length r k)
 
 pub sheet-most : SheetMost
-sheet-most r k = omega (arith, has-length which.Sheet r k)
+sheet-most r k = omega (arith, has-length r k)
 
 pub sheet-decoded : SheetDecoded
 unfolding sheetOf

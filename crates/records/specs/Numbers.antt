@@ -31,7 +31,7 @@ unfoldable pub numbersBytes : List ℕ → List ℕ
 numbersBytes [] = []
 numbersBytes (u ∷ us) = u32Bytes u ++ numbersBytes us
 
--- the list l with vs in place of what stands from `at` on
+-- the list l with vs from `at` on, in place of as many elements
 unfoldable pub put : List ℕ → (at : ℕ) → List ℕ → List ℕ
 put l at vs = take at l ++ vs ++ drop (at + length vs) l
 

@@ -8,22 +8,37 @@ use lib.Dec.{eqb}
 use lib.IntN.{ℤ, pos}
 use lib.Signed.{mag}
 use Rattle.refusal.specs.declared.Refusal.the-variants.{Kind}
+use Rattle.refusal.specs.Numbers.{Reply, accepted, refused}
 use Rattle.sheet.specs.declared.Sheet.{Sheet}
 use Rattle.records.specs.declared.Record.{Record}
-use Rattle.records.specs.declared.Record.the-variants as which
+use Rattle.records.specs.declared.Record.the-variants as records
 use Rattle.records.specs.declared.Layout.{Layout}
 use Rattle.records.specs.declared.Layout.the-variants.{Known, Refused}
 use Rattle.place.specs.declared.Place.{Place}
 use Rattle.records.specs.Numbers.{u32At, i32At, unsigned, numbersBytes}
 
 -- 1 sheet 36, 2 place 36, 3 end 4; any other kind is unknown: 2
-unfoldable pub layoutOf : ℕ → Layout
-layoutOf kind = cond (eqb kind 1) (Known which.Sheet 36) (cond (eqb kind 2) (Known which.Place 36) (cond (eqb kind 3) (Known which.End 4) (Refused Kind)))
+unfoldable pub layoutOf : (byte : ℕ) → Layout
+layoutOf byte = cond (eqb byte 1) (Known records.Sheet 36) (cond (eqb byte 2) (Known records.Place 36) (cond (eqb byte 3) (Known records.End 4) (Refused Kind)))
+
+-- the number and the values that a layout stands for: which record it is (1 sheet, 2 place, 3 end), and its body's length
+abbrev pub recordNumber : Record → ℕ
+recordNumber records.Sheet = 1
+recordNumber records.Place = 2
+recordNumber records.End = 3
+
+abbrev pub layoutReplyOf : Layout → Reply
+layoutReplyOf (Known which body) = accepted (pos (recordNumber which) ∷ pos body ∷ [])
+layoutReplyOf (Refused why) = refused 2 why
+
+-- what a kind byte comes to
+abbrev pub layoutReply : (byte : ℕ) → Reply
+layoutReply byte = layoutReplyOf (layoutOf byte)
 
 -- the bytes of one such record: a kind byte that says so, and the body that it fixes
 pub record IsRecord (which : Record) (r : List ℕ) : Type 0 where
   pub body : ℕ
-  pub kind : layoutOf (getD r 0 0) ≡ Known which body
+  pub layout : layoutOf (getD r 0 0) ≡ Known which body
   pub whole : length r ≡ suc body
 
 -- zeros, where there is no sheet
@@ -92,7 +107,7 @@ endOf r = u32At r 1
 unfoldable pub endRecord : ℕ → List ℕ
 endRecord count = 3 ∷ numbersBytes (count ∷ [])
 
--- what the types of the fields hold: signed and unsigned 32-bit numbers, and 16 bytes
+-- what the types of the fields hold: signed 32-bit numbers (`mag` of k is k, of -(k + 1) it is k: so from -2^31 up to 2^31 - 1), unsigned ones, and 16 bytes
 abbrev pub IsI32 : ℤ → Type 0
 IsI32 z = mag z < 2 ^ 31
 

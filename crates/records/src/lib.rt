@@ -6,8 +6,8 @@ ghost use mathlib.Core.Path.{_≡_};
 ghost use Prim.Native.Nat.{_+_, _*_, _≤_, _<_};
 ghost use lib.ListN.{length, take, drop};
 ghost use Rattle.records.specs.Numbers.{u32At, i32At, signed, unsigned, u32Bytes, numbersBytes, put};
-ghost use Rattle.records.specs.Records.{layoutOf, IsRecord, blankSheet, sheetOf, sheetRecord, placeOf, placeRecord, endOf, endRecord};
-ghost use Rattle.records.specs.declared.Record.the-variants as which;
+ghost use Rattle.records.specs.Records.{layoutReplyOf, layoutReply, IsRecord, blankSheet, sheetOf, sheetRecord, placeOf, placeRecord, endOf, endRecord};
+ghost use Rattle.records.specs.declared.Record.the-variants as records;
 use place::NAME_LENGTH;
 use place::Place;
 use refusal::Refusal;
@@ -20,11 +20,11 @@ const PLACE: u8 = 2;
 
 const END: u8 = 3;
 
-const SHEET_LENGTH: usize = 36;
+const SHEET_BODY: usize = 36;
 
-const PLACE_LENGTH: usize = 36;
+const PLACE_BODY: usize = 36;
 
-const END_LENGTH: usize = 4;
+const END_BODY: usize = 4;
 
 // Which record it is.
 pub enum Record {
@@ -40,21 +40,21 @@ pub enum Layout {
 }
 
 // The record that a kind byte begins, and its body's length; 2 for any other kind.
-pub fn layout_of(kind: u8) -> Layout
-    ensures { λ r. ⌜ r ≡ layoutOf kind ⌝ }
+pub fn layout_of(byte: u8) -> Layout
+    ensures { λ r. ⌜ layoutReplyOf r ≡ layoutReply byte ⌝ }
 {
-    match kind {
+    match byte {
         SHEET => Layout::Known {
             record: Record::Sheet,
-            body: SHEET_LENGTH,
+            body: SHEET_BODY,
         },
         PLACE => Layout::Known {
             record: Record::Place,
-            body: PLACE_LENGTH,
+            body: PLACE_BODY,
         },
         END => Layout::Known {
             record: Record::End,
-            body: END_LENGTH,
+            body: END_BODY,
         },
         _ => Layout::Refused(Refusal::Kind),
     }
@@ -145,7 +145,7 @@ pub fn blank_sheet() -> Sheet
 
 // The sheet of a sheet's record; not offered to callers.
 pub fn decode_sheet_unchecked(bytes: &[u8]) -> Sheet
-    requires { ⌜ IsRecord which.Sheet (now bytes) ⌝ }
+    requires { ⌜ IsRecord records.Sheet (now bytes) ⌝ }
     ensures { λ r. ⌜ r ≡ sheetOf (now (bytes .entry)) ⌝ }
 {
     Sheet {
@@ -165,7 +165,7 @@ pub fn decode_sheet_unchecked(bytes: &[u8]) -> Sheet
 pub fn sheet_record_length(sheet: Sheet) -> usize
     ensures { λ r. ⌜ r ≡ length (sheetRecord sheet) ⌝ }
 {
-    SHEET_LENGTH + 1
+    SHEET_BODY + 1
 }
 
 // Fills a part of a buffer with a sheet's record; not offered to callers.
@@ -216,7 +216,7 @@ fn put_name(out: &mut [u8], at: usize, name: [u8; 16])
 
 // The place of a place's record; not offered to callers.
 pub fn decode_place_unchecked(bytes: &[u8]) -> Place
-    requires { ⌜ IsRecord which.Place (now bytes) ⌝ }
+    requires { ⌜ IsRecord records.Place (now bytes) ⌝ }
     ensures { λ r. ⌜ r ≡ placeOf (now (bytes .entry)) ⌝ }
 {
     let name = name_at(bytes, 21);
@@ -250,7 +250,7 @@ pub fn write_place_unchecked(part: &mut [u8], place: Place)
 
 // The number of places in an end record; not offered to callers.
 pub fn decode_end_unchecked(bytes: &[u8]) -> u32
-    requires { ⌜ IsRecord which.End (now bytes) ⌝ }
+    requires { ⌜ IsRecord records.End (now bytes) ⌝ }
     ensures { λ r. ⌜ r ≡ endOf (now (bytes .entry)) ⌝ }
 {
     u32_at(bytes, 1)

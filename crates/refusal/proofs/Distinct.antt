@@ -15,32 +15,36 @@ byNumber =
     Cut ∷ Cut ∷ Kind ∷ TrailingBytes ∷ SheetLimit ∷ SheetConstants ∷ IdOrder ∷ PlaceOffSheet ∷ PlacePosition ∷ EndCount ∷ NoRoom ∷ OffSheet ∷ OutOfRange ∷ NothingInReach
     ∷ Name ∷ AnswerOffSheet ∷ []
 
+-- the refusal that has a number
+pub refusalOf : ℕ → Refusal
+refusalOf n = getD byNumber n Cut
+
 -- a refusal is found again by its number
-found : (r : Refusal) → getD byNumber (numberOf r) Cut ≡ r
-unfolding byNumber
-found Cut = refl
-found Kind = refl
-found TrailingBytes = refl
-found SheetLimit = refl
-found SheetConstants = refl
-found IdOrder = refl
-found PlaceOffSheet = refl
-found PlacePosition = refl
-found EndCount = refl
-found NoRoom = refl
-found OffSheet = refl
-found OutOfRange = refl
-found NothingInReach = refl
-found Name = refl
-found AnswerOffSheet = refl
+pub refusal-of-number : (r : Refusal) → refusalOf (numberOf r) ≡ r
+unfolding byNumber refusalOf
+refusal-of-number Cut = refl
+refusal-of-number Kind = refl
+refusal-of-number TrailingBytes = refl
+refusal-of-number SheetLimit = refl
+refusal-of-number SheetConstants = refl
+refusal-of-number IdOrder = refl
+refusal-of-number PlaceOffSheet = refl
+refusal-of-number PlacePosition = refl
+refusal-of-number EndCount = refl
+refusal-of-number NoRoom = refl
+refusal-of-number OffSheet = refl
+refusal-of-number OutOfRange = refl
+refusal-of-number NothingInReach = refl
+refusal-of-number Name = refl
+refusal-of-number AnswerOffSheet = refl
 
 pub distinct-numbers : DistinctNumbers
-distinct-numbers r s e = sym (found r) ∙ ap (λ n. getD byNumber n Cut) e ∙ found s
+distinct-numbers r s e = sym (refusal-of-number r) ∙ ap refusalOf e ∙ refusal-of-number s
 
 -- at 0 stands Cut, whose number is 1
 pub no-number-zero : NoNumberZero
-unfolding byNumber
-no-number-zero r e = let cut : Cut ≡ r = rw e at (found r) in let k = ap numberOf cut in omega arith
+unfolding byNumber refusalOf
+no-number-zero r e = let cut : Cut ≡ r = rw e at (refusal-of-number r) in let k = ap numberOf cut in omega arith
 
 -- ---- of replies
 

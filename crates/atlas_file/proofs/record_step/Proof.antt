@@ -52,7 +52,7 @@ refused-requires-2 c κs = search needs
 
 -- the rules of the verdict
 abbrev rules : tie.After-due → List Rule
-rules c = let a = c .before .before .args in dueRules (a .kind) (a .state)
+rules c = let a = c .before .before .args in dueRules (a .which) (a .state)
 
 returns : tie.Need-returns
 unfolding recordStep
@@ -86,7 +86,7 @@ content-step-requires c κs =
     rw (part-size (a .state .«at») (a .body)) (
       s e .pre .0,
       (
-        a-record (now (a .bytes)) (a .state) (a .body) (whole e) (a .kind) (s e .pre .1 .1),
+        a-record (now (a .bytes)) (a .state) (a .body) (whole e) (a .which) (s e .pre .1 .1),
         (rw (is-whole (now (a .bytes)) (a .state) (a .body) (whole e)) (omega arith), all-hold (rules k) (k .due .result) (k .due .ensures) (e .before .enum-told .given .1)),
       ),
     )

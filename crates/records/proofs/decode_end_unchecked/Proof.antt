@@ -1,12 +1,12 @@
 -- `records::decode_end_unchecked` meets its contract. Assumes nothing.
 use native.Mathlib.Omega.{arith}
 use Rattle.records.specs.Records.{endOf}
-use Rattle.records.proofs.KindBytes.{has-length}
+use Rattle.records.proofs.PlaceRecords.{end-length}
 use Rattle.records.proofs.decode_end_unchecked.Statement.{statement}
 use Rattle.records.proofs.decode_end_unchecked.Tie as tie
 
 u32-at-requires : tie.Need-u32-at-requires
-u32-at-requires c κs = omega (arith, has-length)
+u32-at-requires c κs = omega (arith, end-length)
 
 returns : tie.Need-returns
 unfolding endOf

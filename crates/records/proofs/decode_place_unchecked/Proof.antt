@@ -2,28 +2,28 @@
 use borrow.Author.Needs.{needs}
 use native.Mathlib.Omega.{arith}
 use Rattle.records.specs.Records.{placeOf}
-use Rattle.records.proofs.KindBytes.{has-length}
+use Rattle.records.proofs.PlaceRecords.{place-length}
 use Rattle.records.proofs.PlaceRecords.{place-is}
 use Rattle.records.proofs.decode_place_unchecked.Statement.{statement}
 use Rattle.records.proofs.decode_place_unchecked.Tie as tie
 
 name-at-requires : tie.Need-name-at-requires
-name-at-requires c κs = omega (arith, has-length)
+name-at-requires c κs = omega (arith, place-length)
 
 u32-at-requires : tie.Need-u32-at-requires
-u32-at-requires c κs = omega (arith, has-length)
+u32-at-requires c κs = omega (arith, place-length)
 
 i32-at-requires : tie.Need-i32-at-requires
-i32-at-requires c κs = omega (arith, has-length)
+i32-at-requires c κs = omega (arith, place-length)
 
 i32-at-requires-2 : tie.Need-i32-at-requires-2
-i32-at-requires-2 c κs = omega (arith, has-length)
+i32-at-requires-2 c κs = omega (arith, place-length)
 
 i32-at-requires-3 : tie.Need-i32-at-requires-3
-i32-at-requires-3 c κs = omega (arith, has-length)
+i32-at-requires-3 c κs = omega (arith, place-length)
 
 i32-at-requires-4 : tie.Need-i32-at-requires-4
-i32-at-requires-4 c κs = omega (arith, has-length)
+i32-at-requires-4 c κs = omega (arith, place-length)
 
 returns : tie.Need-returns
 unfolding placeOf

@@ -2,7 +2,7 @@
 use borrow.Author.Needs.{needs}
 use native.Mathlib.Omega.{arith}
 use Rattle.records.specs.Records.{sheetOf}
-use Rattle.records.proofs.KindBytes.{has-length}
+use Rattle.records.proofs.SheetRecords.{has-length}
 use Rattle.records.proofs.SheetRecords.{sheet-is}
 use Rattle.records.proofs.decode_sheet_unchecked.Statement.{statement}
 use Rattle.records.proofs.decode_sheet_unchecked.Tie as tie

@@ -17,35 +17,35 @@ use Rattle.refusal.specs.Rules.{allHold}
 use Rattle.refusal.proofs.Distinct.{no-number-zero}
 use Rattle.sheet.specs.declared.Sheet.{Sheet}
 use Rattle.sheet.specs.Sheets.{sheetRules}
-use Rattle.records.specs.declared.Record.the-variants as which
+use Rattle.records.specs.declared.Record.the-variants as records
 use Rattle.place.specs.declared.Place.{Place}
 use Rattle.atlas_file.specs.declared.State.{State}
 use Rattle.atlas_file.specs.declared.StepAnswer.{StepAnswer}
 use Rattle.records.specs.Records.{IsRecord, sheetOf, placeOf, endOf}
 use Rattle.place.specs.Places.{placeRules}
 use Rattle.atlas_file.specs.Steps.{pastSheet, pastPlace, mostPlaces, refusedStep}
-use Rattle.atlas_file.specs.Reading.{Reading, readWhole, startOf, readFrom, readOf, readReply, placesRead}
+use Rattle.atlas_file.specs.Reading.{Reading, acceptedReading, startOf, readFrom, readOf, readReply, placesRead}
 use Rattle.atlas_file.proofs.Views.{Stepped, refused, sheet, place, end, view}
 use Rattle.records.specs.Numbers.{Bytes}
 use Rattle.records.specs.Records.{sheetRecord, placeRecord, endRecord}
 use Rattle.atlas_file.specs.Writing.{placeRecords, fileOf, placesRules, listRules, writeRules}
-use Rattle.atlas_file.specs.Laws.{FileLength, CountIsPlaces, ReadIsGood, LongestFile, WritesBack, WriterAccepts}
+use Rattle.integrity.specs.Integrity.{FileLength, CountIsPlaces, ReadIsGood, LongestFile, WritesBack, WriterAccepts}
 use Rattle.refusal.proofs.InOrder.{both-hold, hold-together, all-hold-good}
 use Rattle.records.proofs.SheetRecords.{sheet-length, sheet-most, sheet-forth}
 use Rattle.records.proofs.PlaceRecords.{place-length, place-forth, end-length, end-forth}
 use Rattle.records.specs.Laws.{longestSheetRecord}
 use Rattle.atlas_file.proofs.Moves.{behind}
 use Rattle.atlas_file.proofs.Turns.{afterStep}
 
 -- from a state on, behind the sheet, the file has the records of these places and the end
 pub data Run (b : List ℕ) : State → List Place → Type 0 where
-  ends : {s : State} (r : List ℕ) → IsRecord which.End r → drop (s .«at») b ≡ r → endOf r ≡ s .«count» → Run b s []
-  goes : {s : State} {ps : List Place} (r rest : List ℕ) → IsRecord which.Place r → drop (s .«at») b ≡ r ++ rest → s .«count» < mostPlaces → s .«count» < s .«room» →
+  ends : {s : State} (r : List ℕ) → IsRecord records.End r → drop (s .«at») b ≡ r → endOf r ≡ s .«count» → Run b s []
+  goes : {s : State} {ps : List Place} (r rest : List ℕ) → IsRecord records.Place r → drop (s .«at») b ≡ r ++ rest → s .«count» < mostPlaces → s .«count» < s .«room» →
       allHold (placeRules (s .«sheet») (s .«count») (s .«last_id») (placeOf r)) ≡ true → Run b (pastPlace s r) ps → Run b s (placeOf r ∷ ps)
 
 -- reading on from such a state, to the end
 abbrev Reads : (b : List ℕ) (s : State) (places : List Place) (R : Reading) → Type 0
-Reads b s places R = (ps : List Place) × Run b s ps × (R ≡ readWhole (s .«count» + length ps) (s .«sheet») (places ++ ps))
+Reads b s places R = (ps : List Place) × Run b s ps × (R ≡ acceptedReading (s .«count» + length ps) (s .«sheet») (places ++ ps))
 
 runs-turn : (n : ℕ) (b : List ℕ) (s : State) (places : List Place) {r : StepAnswer} → Stepped b s r → s .«sheet_read» ≡ true → afterStep n b s places r .reply .number ≡ 0 →
     ((t : State) (qs : List Place) → t .«sheet_read» ≡ true → readFrom n b t qs .reply .number ≡ 0 → Reads b t qs (readFrom n b t qs)) →
@@ -56,9 +56,9 @@ runs-turn n b s places (sheet r rest i at unread ok) read e on = absurd (true≢
 runs-turn n b s places (place r rest i at _ few room ok) read e on =
     let o = on (pastPlace s r) (places ++ (placeOf r ∷ [])) read e in
     let count : s .«count» + 1 + length (o .0) ≡ s .«count» + suc (length (o .0)) = omega arith in
-    (placeOf r ∷ o .0, goes r rest i at few room ok (o .1), o .2 ∙ (λ j. readWhole (count j) (s .«sheet») (append-snoc places (placeOf r) (o .0) j)))
+    (placeOf r ∷ o .0, goes r rest i at few room ok (o .1), o .2 ∙ (λ j. acceptedReading (count j) (s .«sheet») (append-snoc places (placeOf r) (o .0) j)))
 runs-turn n b s places (end r i at _ same) read e on =
-    ([], ends r i at same, λ j. readWhole ((same ∙ sym (add-zero (s .«count»))) j) (s .«sheet») (sym (append-nil places) j))
+    ([], ends r i at same, λ j. acceptedReading ((same ∙ sym (add-zero (s .«count»))) j) (s .«sheet») (sym (append-nil places) j))
 
 runs : (n : ℕ) (b : List ℕ) (s : State) (places : List Place) → s .«sheet_read» ≡ true → readFrom n b s places .reply .number ≡ 0 →
     Reads b s places (readFrom n b s places)
@@ -71,11 +71,11 @@ pub record Whole (b : List ℕ) (room : ℕ) (R : Reading) : Type 0 where
   pub bytes : List ℕ
   pub rest : List ℕ
   pub places : List Place
-  pub is-sheet : IsRecord which.Sheet bytes
+  pub is-sheet : IsRecord records.Sheet bytes
   pub front : b ≡ bytes ++ rest
   pub good : allHold (sheetRules (sheetOf bytes)) ≡ true
   pub run : Run b (pastSheet (startOf room) bytes) places
-  pub reads : R ≡ readWhole (length places) (sheetOf bytes) places
+  pub reads : R ≡ acceptedReading (length places) (sheetOf bytes) places
 
 whole-turn : (n : ℕ) (b : List ℕ) (room : ℕ) {r : StepAnswer} → Stepped b (startOf room) r → afterStep n b (startOf room) [] r .reply .number ≡ 0 →
     Whole b room (afterStep n b (startOf room) [] r)
@@ -91,7 +91,7 @@ whole-turn n b room (sheet r rest i at unread ok) e =
       front = at;
       good = ok;
       run = o .1;
-      reads = o .2 ∙ ap (λ k. readWhole k (sheetOf r) (o .0)) (zero-add (length (o .0)));
+      reads = o .2 ∙ ap (λ k. acceptedReading k (sheetOf r) (o .0)) (zero-add (length (o .0)));
     }
 whole-turn n b room (place r rest i at read few fits ok) e = absurd (true≢false (sym read))
 whole-turn n b room (end r i at read same) e = absurd (true≢false (sym read))
@@ -158,7 +158,7 @@ list-parts s ps e =
 
 module _ {b : List ℕ} {room : ℕ} {R : Reading} (w : Whole b room R) where
   -- what is shown of what was read is shown of R
-  of-reading : (P : Reading → Type 0) → P (readWhole (length (w .places)) (sheetOf (w .bytes)) (w .places)) → P R
+  of-reading : (P : Reading → Type 0) → P (acceptedReading (length (w .places)) (sheetOf (w .bytes)) (w .places)) → P R
   of-reading P = subst P (sym (w .reads))
 
   behind-sheet : drop (0 + length (w .bytes)) b ≡ w .rest

@@ -18,29 +18,29 @@ use Rattle.refusal.proofs.Distinct.{no-number-zero}
 use Rattle.refusal.proofs.InOrder.{by-outcome, by-outcomes}
 use Rattle.sheet.specs.Sheets.{sheetRules}
 use Rattle.records.specs.declared.Record.{Record}
-use Rattle.records.specs.declared.Record.the-variants as which
+use Rattle.records.specs.declared.Record.the-variants as records
 use Rattle.records.specs.declared.Layout.{Layout}
 use Rattle.records.specs.declared.Layout.the-variants.{Known, Refused}
 use Rattle.place.specs.declared.Place.{Place}
 use Rattle.atlas_file.specs.declared.State.{State}
 use Rattle.atlas_file.specs.declared.StepAnswer.{StepAnswer}
 use Rattle.records.specs.Records.{layoutOf, IsRecord, sheetOf, placeOf}
 use Rattle.records.specs.Laws.{longestSheetRecord}
 use Rattle.place.specs.Places.{placeRules}
 use Rattle.atlas_file.specs.Steps.{pastSheet, pastPlace, mostPlaces, refusedStep, refusedHere, dueRules, endRules, sheetStep, placeStep, endStep, contentStep, recordStep, layoutStep, stepOf}
-use Rattle.atlas_file.specs.Reading.{Reading, readRefused, startOf, readFrom, readOf}
-use Rattle.atlas_file.specs.Laws.{longestFile, CutRefused, FirstBytesDecide}
+use Rattle.atlas_file.specs.Reading.{Reading, refusedReading, startOf, readFrom, readOf}
+use Rattle.integrity.specs.Integrity.{longestFile, CutRefused, FirstBytesDecide}
 use Rattle.records.proofs.SheetRecords.{sheet-most}
 use Rattle.records.proofs.PlaceRecords.{place-length, end-length}
-use Rattle.atlas_file.proofs.Returns.{room-enough}
+use Rattle.integrity.proofs.Rooms.{room-enough}
 use Rattle.atlas_file.proofs.Views.{is-whole, a-record, place-due}
 use Rattle.atlas_file.proofs.Turns.{afterStep, read-turn, record-turn}
 
 -- Reading a file that starts with so many bytes and has more, and reading those alone. Both refuse the same; or these alone are cut; or the file has bytes past an end. In the last two cases there are no more of them than a file can have.
 data Compared (bytes : ℕ) : Reading → Reading → Type 0 where
-  agree : (why : Refusal) (offset : ℕ) → Compared bytes (readRefused why offset) (readRefused why offset)
-  cut : (a : Reading) (offset : ℕ) → offset ≤ bytes → bytes ≤ longestFile → Compared bytes a (readRefused Cut offset)
-  past : (offset : ℕ) (a : Reading) → bytes ≤ longestFile → Compared bytes (readRefused TrailingBytes offset) a
+  agree : (why : Refusal) (offset : ℕ) → Compared bytes (refusedReading why offset) (refusedReading why offset)
+  cut : (a : Reading) (offset : ℕ) → offset ≤ bytes → bytes ≤ longestFile → Compared bytes a (refusedReading Cut offset)
+  past : (offset : ℕ) (a : Reading) → bytes ≤ longestFile → Compared bytes (refusedReading TrailingBytes offset) a
 
 -- how far into a file a state stands: at its start before the sheet, then no further than the records read
 record Early (s : State) : Type 0 where
@@ -48,15 +48,15 @@ record Early (s : State) : Type 0 where
   few : s .«count» ≤ mostPlaces
 
 -- a kind byte and a body of zeros
-blank-record : (kind : Record) (k body : ℕ) → layoutOf k ≡ Known kind body → IsRecord kind (k ∷ replicate body 0)
-blank-record kind k body e = record { body = body; kind = e; whole = ap suc (length-replicate body 0) }
+blank-record : (which : Record) (k body : ℕ) → layoutOf k ≡ Known which body → IsRecord which (k ∷ replicate body 0)
+blank-record which k body e = record { body = body; layout = e; whole = ap suc (length-replicate body 0) }
 
 -- what the rules of due records tell
-sheet-due : (s : State) → allHold (dueRules which.Sheet s) ≡ true → s .«sheet_read» ≡ false
+sheet-due : (s : State) → allHold (dueRules records.Sheet s) ≡ true → s .«sheet_read» ≡ false
 unfolding dueRules
 sheet-due s due = not-true _ (and-elim-left (not (s .«sheet_read»)) _ due)
 
-end-due : (s : State) → allHold (dueRules which.End s) ≡ true → s .«sheet_read» ≡ true
+end-due : (s : State) → allHold (dueRules records.End s) ≡ true → s .«sheet_read» ≡ true
 unfolding dueRules
 end-due s due = and-elim-left (s .«sheet_read») _ due
 
@@ -68,19 +68,19 @@ module _ (s : State) (early : Early s) where
   behind e = rw e at (early .reach)
 
   -- a record that is due ends within the longest file
-  ends-within : (kind : Record) (r : List ℕ) → IsRecord kind r → allHold (dueRules kind s) ≡ true → s .«at» + length r ≤ longestFile
-  ends-within which.Sheet r is due = omega (arith, before (sheet-due s due), sheet-most r is)
-  ends-within which.Place r is due = omega (arith, behind (place-due s due .0), place-due s due .1, place-length r is)
-  ends-within which.End r is due = omega (arith, behind (end-due s due), early .few, end-length r is)
+  ends-within : (which : Record) (r : List ℕ) → IsRecord which r → allHold (dueRules which s) ≡ true → s .«at» + length r ≤ longestFile
+  ends-within records.Sheet r is due = omega (arith, before (sheet-due s due), sheet-most r is)
+  ends-within records.Place r is due = omega (arith, behind (place-due s due .0), place-due s due .1, place-length r is)
+  ends-within records.End r is due = omega (arith, behind (end-due s due), early .few, end-length r is)
 
   at-within : s .«at» ≤ longestFile
   at-within = omega (arith, choose (λ k. k ≤ longestSheetRecord + 37 * s .«count») (s .«sheet_read») _ 0 (λ _. le-refl _) (λ _. omega arith), early .reach, early .few)
 
   -- past a sheet or a place the state is early too
-  early-sheet : (r : List ℕ) → IsRecord which.Sheet r → allHold (dueRules which.Sheet s) ≡ true → Early (pastSheet s r)
+  early-sheet : (r : List ℕ) → IsRecord records.Sheet r → allHold (dueRules records.Sheet s) ≡ true → Early (pastSheet s r)
   early-sheet r is due = record { reach = omega (arith, before (sheet-due s due), sheet-most r is); few = early .few }
 
-  early-place : (r : List ℕ) → IsRecord which.Place r → allHold (dueRules which.Place s) ≡ true → Early (pastPlace s r)
+  early-place : (r : List ℕ) → IsRecord records.Place r → allHold (dueRules records.Place s) ≡ true → Early (pastPlace s r)
   early-place r is due =
       let d = place-due s due in
       record { reach = rw (d .0) (omega (arith, behind (d .0), place-length r is)); few = omega (arith, d .1) }
@@ -105,42 +105,42 @@ module _ (x y : List ℕ) (more : 0 < length y) where
     past-end offset a l = past _ _ l
 
     -- a record that is whole in x; in x ++ y there is more behind it
-    contents : (kind : Record) (r : List ℕ) (t : Bool) → IsRecord kind r → allHold (dueRules kind s) ≡ true → s .«at» + length r ≤ length x →
-        (t ≡ false → length x ≤ s .«at» + length r) → Steps (contentStep kind r true s) (contentStep kind r t s)
+    contents : (which : Record) (r : List ℕ) (t : Bool) → IsRecord which r → allHold (dueRules which s) ≡ true → s .«at» + length r ≤ length x →
+        (t ≡ false → length x ≤ s .«at» + length r) → Steps (contentStep which r true s) (contentStep which r t s)
     unfolding contentStep sheetStep placeStep endStep
-    contents which.Sheet r t is due there last =
+    contents records.Sheet r t is due there last =
         by-outcome StepAnswer (λ a. Steps a a) (sheetRules (sheetOf r)) _ _
         (λ _. unfold Steps in on (pastSheet s r) places (early-sheet s early r is due) (omega (arith, is .whole)) there)
         (λ why. refused why _)
-    contents which.Place r t is due there last =
+    contents records.Place r t is due there last =
         by-outcome StepAnswer (λ a. Steps a a) (placeRules (s .«sheet») (s .«count») (s .«last_id») (placeOf r)) _ _
         (λ _. unfold Steps in on (pastPlace s r) (places ++ (placeOf r ∷ [])) (early-place s early r is due) (omega (arith, is .whole)) there)
         (λ why. refused why _)
-    contents which.End r true is due there last = by-outcomes StepAnswer Steps (endRules r s) _ _ _ _ (λ _. refused TrailingBytes _) (λ why. refused why (s .«at»))
-    contents which.End r false is due there last =
-        by-outcomes StepAnswer Steps (endRules r s) _ _ _ _ (λ _. past-end _ _ (omega (arith, last refl, ends-within s early which.End r is due))) (λ why. refused why (s .«at»))
+    contents records.End r true is due there last = by-outcomes StepAnswer Steps (endRules r s) _ _ _ _ (λ _. refused TrailingBytes _) (λ why. refused why (s .«at»))
+    contents records.End r false is due there last =
+        by-outcomes StepAnswer Steps (endRules r s) _ _ _ _ (λ _. past-end _ _ (omega (arith, last refl, ends-within s early records.End r is due))) (λ why. refused why (s .«at»))
 
-    records : (kind : Record) (body : ℕ) → layoutOf (getD x (s .«at») 0) ≡ Known kind body →
-        Steps (recordStep kind body (drop (s .«at») (x ++ y)) s) (recordStep kind body (drop (s .«at») x) s)
-    records kind body e =
+    one-record : (which : Record) (body : ℕ) → layoutOf (getD x (s .«at») 0) ≡ Known which body →
+        Steps (recordStep which body (drop (s .«at») (x ++ y)) s) (recordStep which body (drop (s .«at») x) s)
+    one-record which body e =
         let left = drop (s .«at») x in
         let long = length-drop (s .«at») x in
         let longer = length-append left y in
-        rw (drop-append-le (s .«at») x y inside, record-turn kind body (left ++ y) s, record-turn kind body left s)
-        (by-outcomes StepAnswer Steps (dueRules kind s) _ _ _ _ (λ due.
+        rw (drop-append-le (s .«at») x y inside, record-turn which body (left ++ y) s, record-turn which body left s)
+        (by-outcomes StepAnswer Steps (dueRules which s) _ _ _ _ (λ due.
         choose (Steps _) (ltb body (length left)) _ _
         (λ whole.
         let h : body < length left = ltb-true _ _ whole in
         rw (lt-ltb body (length (left ++ y)) (omega arith), take-append-le (suc body) left y h, lt-ltb (suc body) (length (left ++ y)) (omega arith))
-        (contents kind (take (suc body) left) _ (a-record x s body whole kind e) due (omega (arith, is-whole x s body whole))
+        (contents which (take (suc body) left) _ (a-record x s body whole which e) due (omega (arith, is-whole x s body whole))
         (λ last. let k : length left ≤ suc body = ltb-false _ _ last in omega (arith, is-whole x s body whole))))
         (λ less.
         let h : length left ≤ body = ltb-false _ _ less in
-        short _ (omega (arith, ends-within s early kind _ (blank-record kind _ body e) due, length-replicate {A = ℕ} body 0))))
+        short _ (omega (arith, ends-within s early which _ (blank-record which _ body e) due, length-replicate {A = ℕ} body 0))))
         (λ why. refused why _))
 
     layouts : (l : Layout) → layoutOf (getD x (s .«at») 0) ≡ l → Steps (layoutStep l (drop (s .«at») (x ++ y)) s) (layoutStep l (drop (s .«at») x) s)
-    layouts (Known kind body) e = records kind body e
+    layouts (Known which body) e = one-record which body e
     layouts (Refused why) e = refused why _
 
     steps : Steps (stepOf (x ++ y) s) (stepOf x s)
@@ -168,7 +168,7 @@ module _ (x y : List ℕ) (more : 0 < length y) where
   compared room = reads (suc (length (x ++ y))) (suc (length x)) (startOf room) [] (record { reach = omega arith; few = omega arith }) (omega arith) (omega arith) (omega arith)
 
 -- where the file is accepted, its first bytes alone are cut; where they are more than a file can have, they agree with it
-accepted-cut : {bytes : ℕ} {a c : Reading} → Compared bytes a c → a .reply .number ≡ 0 → (offset : ℕ) × (offset ≤ bytes) × (c ≡ readRefused Cut offset)
+accepted-cut : {bytes : ℕ} {a c : Reading} → Compared bytes a c → a .reply .number ≡ 0 → (offset : ℕ) × (offset ≤ bytes) × (c ≡ refusedReading Cut offset)
 accepted-cut (agree why offset) e = absurd (no-number-zero why e)
 accepted-cut (cut a offset l h) e = (offset, l, refl)
 accepted-cut (past offset a h) e = absurd (no-number-zero TrailingBytes e)

@@ -10,10 +10,10 @@ use Rattle.sheet.specs.declared.Sheet.{Sheet}
 use Rattle.place.specs.declared.Place.{Place}
 use Rattle.place.specs.Places.{placeRules}
 use Rattle.place.proofs.GoodPlaces.{own-position, above-the-last}
 use Rattle.atlas_file.specs.Reading.{placesRead}
 use Rattle.atlas_file.specs.Writing.{placesRules}
-use Rattle.atlas_file.specs.Laws.{AreOwn, OwnPositions, RiseAbove, Rising, RisingIds}
-use Rattle.atlas_file.proofs.Accepted.{list-parts, read-is-good}
+use Rattle.integrity.specs.Integrity.{AreOwn, OwnPositions, RiseAbove, Rising, RisingIds}
+use Rattle.integrity.proofs.Accepted.{list-parts, read-is-good}
 
 are-own : (s : Sheet) (count last : ℕ) (ps : List Place) → allHold (placesRules s count last ps) ≡ true → AreOwn s ps
 unfolding placesRules

@@ -1,0 +1,2 @@
+-- What holds of atlas files.
+pub mod Integrity
