@@ -24,7 +24,7 @@ distinct-file-replies (Refused why offset) (Refused reason place) e = λ i. Refu
 -- ---- of a step: what was found is read off its reply
 
 foundOf : StepReply → Found
-foundOf r = cond (eqb (r .kind) 1) (found.Sheet (r .sheet)) (cond (eqb (r .kind) 2) found.Place (cond (eqb (r .kind) 3) (found.End (r .count)) (found.Refused (refusalOf (r .number)) (r .offset))))
+foundOf r = cond (eqb (r .which) 1) (found.Sheet (r .sheet)) (cond (eqb (r .which) 2) found.Place (cond (eqb (r .which) 3) (found.End (r .count)) (found.Refused (refusalOf (r .number)) (r .offset))))
 
 found-again : (f : Found) (p : Place) (s : State) → foundOf (foundReply f p s) ≡ f
 unfolding foundOf

@@ -14,13 +14,12 @@ use Rattle.atlas_file.specs.declared.Found.{Found}
 use Rattle.atlas_file.specs.declared.Found.the-variants as found
 use Rattle.atlas_file.specs.declared.StepAnswer.{StepAnswer}
 use Rattle.records.specs.Records.{IsRecord, sheetOf, placeOf, endOf}
-use Rattle.atlas_file.specs.Steps.{mostPlaces, pastSheet, pastPlace, refusedStep, stepOf}
+use Rattle.atlas_file.specs.Steps.{mostPlaces, pastSheet, pastPlace, refusedStep, stepOf, StepReply, foundReply}
 use Rattle.refusal.specs.Rules.{allHold}
 use Rattle.sheet.specs.declared.Sheet.{Sheet}
 use Rattle.sheet.specs.Sheets.{passesChecks}
-use Rattle.place.specs.Places.{placeRules}
-use Rattle.atlas_file.specs.Reading.{goesOn, readFrom}
-use Rattle.records.specs.Records.{blankSheet}
+use Rattle.place.specs.Places.{blankPlace, placeRules}
+use Rattle.atlas_file.specs.Reading.{goesOn, startOf, readFrom}
 use Rattle.atlas_file.specs.Laws.{OneRecord, SheetMoves, PlaceMoves, EndIsLast, Stays, SameAgain, BoundNeverReached}
 use Rattle.atlas_file.proofs.Views.{Stepped, refused, sheet, place, end, view}
 use Rattle.atlas_file.proofs.Turns.{afterStep, read-turn}
@@ -44,28 +43,13 @@ one-record which b s next r rest i e p = record {
   past = p;
 }
 
--- which of the four it is, and the sheet or the count in it
-abbrev pub sort : Found → ℕ
-sort (found.Sheet h) = 0
-sort found.Place = 1
-sort (found.End count) = 2
-sort (found.Refused why offset) = 3
-
-abbrev sheetIn : Found → Sheet
-sheetIn (found.Sheet h) = h
-sheetIn found.Place = blankSheet
-sheetIn (found.End count) = blankSheet
-sheetIn (found.Refused why offset) = blankSheet
-
-abbrev countIn : Found → ℕ
-countIn (found.Sheet h) = 0
-countIn found.Place = 0
-countIn (found.End count) = count
-countIn (found.Refused why offset) = 0
+-- what was found as a reply has it, whatever stands beside it
+abbrev replied : Found → StepReply
+replied f = foundReply f blankPlace (startOf 0)
 
 -- two findings that are not the same
-pub differ : {P : Type 0} (f g : Found) → f ≡ g → (sort f ≡ sort g → ⊥) → P
-differ f g e n = absurd (n (ap sort e))
+differ : {P : Type 0} (f g : Found) → f ≡ g → (replied f .which ≡ replied g .which → ⊥) → P
+differ f g e n = absurd (n (ap (λ h. replied h .which) e))
 
 module _ {b : List ℕ} {s : State} where
   sheet-moved : {a : StepAnswer} → Stepped b s a → (h : Sheet) → a .«found» ≡ found.Sheet h →
@@ -73,7 +57,7 @@ module _ {b : List ℕ} {s : State} where
   unfolding refusedStep
   sheet-moved (refused why offset) h e = differ _ _ e (λ z. omega arith)
   sheet-moved (sheet r rest i at unread ok) h e =
-      let same = ap sheetIn e in
+      let same = ap (λ f. replied f .sheet) e in
       (r, one-record records.Sheet b s _ r rest i at refl, sym same, refl, unread, subst (λ (h : Sheet). passesChecks h ≡ true) same ok)
   sheet-moved (place r rest i at read few room ok) h e = differ _ _ e (λ z. omega arith)
   sheet-moved (end r i at read same) h e = differ _ _ e (λ z. omega arith)
@@ -92,7 +76,7 @@ module _ {b : List ℕ} {s : State} where
   last-end (refused why offset) count e = differ _ _ e (λ z. omega arith)
   last-end (sheet r rest i at unread ok) count e = differ _ _ e (λ z. omega arith)
   last-end (place r rest i at read few room ok) count e = differ _ _ e (λ z. omega arith)
-  last-end (end r i at read same) count e = let c-is = sym (ap countIn e) in (r, i, at, read, c-is, c-is ∙ same)
+  last-end (end r i at read same) count e = let c-is = sym (ap (λ f. replied f .count) e) in (r, i, at, read, c-is, c-is ∙ same)
 
   stayed : {r : StepAnswer} → Stepped b s r → goesOn (r .«found») ≡ false → r .«next» ≡ s
   unfolding refusedStep

@@ -1,4 +1,4 @@
--- Reading on by one step, as a function of the step's answer; and the step where the kind byte, or the whole record, is there. Assumes nothing.
+-- Reading on by one step as a function of the step's answer, and a record's step rule by rule. Assumes nothing.
 use mathlib.Core.Path.{_≡_, refl}
 use mathlib.Core.Bool.{cond}
 use mathlib.Core.List.{List, [], _∷_, _++_}

@@ -23,9 +23,8 @@ use Rattle.records.specs.Records.{layoutOf, IsRecord, sheetOf, placeOf, endOf}
 use Rattle.atlas_file.specs.declared.State.{State}
 use Rattle.atlas_file.specs.declared.Found.the-variants as found
 use Rattle.atlas_file.specs.declared.StepAnswer.{StepAnswer}
-use Rattle.place.specs.Places.{placeRules}
+use Rattle.place.specs.Places.{placeRules, blankPlace}
 use Rattle.atlas_file.specs.Steps.{mostPlaces, pastSheet, pastPlace, refusedStep, dueRules, endRules, lastRules, sheetStep, placeStep, endStep, contentStep, recordStep, layoutStep, stepOf}
-use Rattle.place.specs.Places.{blankPlace}
 
 pub data Stepped (b : List ℕ) (s : State) : StepAnswer → Type 0 where
   refused : (why : Refusal) (offset : ℕ) → Stepped b s (refusedStep s why offset)
@@ -41,13 +40,28 @@ pub data Stepped (b : List ℕ) (s : State) : StepAnswer → Type 0 where
 first-holds : (t : Bool) (rules : List Rule) → (t && allHold rules) ≡ true → t ≡ true
 first-holds t rules e = and-elim-left t (allHold rules) e
 
--- a place that is due: the sheet is read, and there is room
+-- what it says that a record is due: of a sheet, that none is read; of a place, that the sheet is read, and there is room; of the end, that the sheet is read
+pub sheet-due : (s : State) → allHold (dueRules records.Sheet s) ≡ true → s .«sheet_read» ≡ false
+unfolding dueRules
+sheet-due s due = not-true _ (first-holds _ [] due)
+
 pub place-due : (s : State) → allHold (dueRules records.Place s) ≡ true → (s .«sheet_read» ≡ true) × (s .«count» < mostPlaces) × (s .«count» < s .«room»)
 unfolding dueRules
 place-due s due =
     let rooms = first-holds _ [] (and-elim-right (s .«sheet_read») _ due) in
     let few = ltb (s .«count») mostPlaces in
     (and-elim-left (s .«sheet_read») _ due, ltb-true _ _ (and-elim-left few _ rooms), ltb-true _ _ (and-elim-right few _ rooms))
+
+pub end-due : (s : State) → allHold (dueRules records.End s) ≡ true → s .«sheet_read» ≡ true
+unfolding dueRules
+end-due s due = first-holds _ [] due
+
+-- a byte of a part of the file
+pub byte-at : (b r rest : List ℕ) (at i : ℕ) → drop at b ≡ r ++ rest → i < length r → getD b (at + i) 0 ≡ getD r i 0
+byte-at b r rest at i e h = sym (getD-drop at b i 0) ∙ ap (λ (l : List ℕ). getD l i 0) e ∙ List·getD-append r rest 0 i h
+
+pub first-byte : (b r rest : List ℕ) (at : ℕ) → drop at b ≡ r ++ rest → 0 < length r → getD b at 0 ≡ getD r 0 0
+first-byte b r rest at e h = ap (λ (k : ℕ). getD b k 0) (sym (add-zero at)) ∙ byte-at b r rest at 0 e h
 
 module _ (b : List ℕ) (s : State) (body : ℕ) (whole : ltb body (length (drop (s .«at») b)) ≡ true) where
   abbrev r : List ℕ
@@ -59,22 +73,15 @@ module _ (b : List ℕ) (s : State) (body : ℕ) (whole : ltb body (length (drop
   pub is-whole : length r ≡ suc body
   is-whole = length-take-le (suc body) (drop (s .«at») b) (let h : body < length (drop (s .«at») b) = ltb-true _ _ whole in omega arith)
 
-  first-byte : getD r 0 0 ≡ getD b (s .«at») 0
-  first-byte =
-      sym (List·getD-append r (drop (suc body) (drop (s .«at») b)) 0 0 (omega (arith, is-whole)))
-      ∙ ap (λ (l : List ℕ). getD l 0 0) (sym splits)
-      ∙ getD-drop (s .«at») b 0 0
-      ∙ ap (λ (k : ℕ). getD b k 0) (add-zero (s .«at»))
-
   pub a-record : (which : Record) → layoutOf (getD b (s .«at») 0) ≡ Known which body → IsRecord which r
-  a-record which e = record { body = body; layout = ap layoutOf first-byte ∙ e; whole = is-whole }
+  a-record which e = record { body = body; layout = ap layoutOf (sym (first-byte b r _ (s .«at») splits (omega (arith, is-whole)))) ∙ e; whole = is-whole }
 
   content-view : (which : Record) → layoutOf (getD b (s .«at») 0) ≡ Known which body → allHold (dueRules which s) ≡ true →
       Stepped b s (contentStep which r (ltb (suc body) (length (drop (s .«at») b))) s)
   unfolding contentStep dueRules sheetStep placeStep endStep
   content-view records.Sheet e due =
       by-outcome StepAnswer (Stepped b s) (sheetRules (sheetOf r)) _ _
-      (λ h. sheet r _ (a-record records.Sheet e) splits (not-true _ (first-holds _ [] due)) h)
+      (λ h. sheet r _ (a-record records.Sheet e) splits (sheet-due s due) h)
       (λ why. refused why _)
   content-view records.Place e due =
       let d = place-due s due in
@@ -86,7 +93,7 @@ module _ (b : List ℕ) (s : State) (body : ℕ) (whole : ltb body (length (drop
       (λ same. by-outcome StepAnswer (Stepped b s) (lastRules (ltb (suc body) (length (drop (s .«at») b)))) _ _
       (λ last.
       let short : length (drop (s .«at») b) ≤ suc body = ltb-false _ _ (not-true _ (first-holds _ [] last)) in
-      end r (a-record records.End e) (sym (take-all (suc body) (drop (s .«at») b) short)) (first-holds _ [] due) (eqb-true _ _ (first-holds _ [] same)))
+      end r (a-record records.End e) (sym (take-all (suc body) (drop (s .«at») b) short)) (end-due s due) (eqb-true _ _ (first-holds _ [] same)))
       (λ why. refused why (s .«at» + length r)))
       (λ why. refused why (s .«at»))
 

@@ -8,7 +8,7 @@ use Rattle.refusal.specs.declared.Refusal.the-variants.{Cut}
 use Rattle.refusal.specs.Numbers.{numberOf}
 use Rattle.sheet.specs.declared.Sheet.{Sheet}
 use Rattle.place.specs.declared.Place.{Place}
-use Rattle.records.specs.Records.{blankSheet}
+use Rattle.sheet.specs.Sheets.{blankSheet}
 use Rattle.atlas_file.specs.declared.State.{State}
 use Rattle.atlas_file.specs.declared.Found.{Found}
 use Rattle.atlas_file.specs.declared.Found.the-variants as found

@@ -9,12 +9,12 @@ use Rattle.refusal.specs.declared.Refusal.the-variants.{Cut, Kind, TrailingByte
 use Rattle.refusal.specs.Numbers.{numberOf}
 use Rattle.refusal.specs.Rules.{Rule, _else-refuse_, outcome}
 use Rattle.sheet.specs.declared.Sheet.{Sheet}
-use Rattle.sheet.specs.Sheets.{sheetRules}
+use Rattle.sheet.specs.Sheets.{sheetRules, blankSheet}
 use Rattle.records.specs.declared.Record.{Record}
 use Rattle.records.specs.declared.Record.the-variants as records
 use Rattle.records.specs.declared.Layout.{Layout}
 use Rattle.records.specs.declared.Layout.the-variants.{Known, Refused}
-use Rattle.records.specs.Records.{layoutOf, blankSheet, sheetOf, placeOf, endOf}
+use Rattle.records.specs.Records.{layoutOf, recordNumber, sheetOf, placeOf, endOf}
 use Rattle.atlas_file.specs.declared.State.{State}
 use Rattle.atlas_file.specs.declared.Found.{Found}
 use Rattle.atlas_file.specs.declared.Found.the-variants as found
@@ -68,14 +68,16 @@ endRules r s = (eqb (endOf r) (s .«count») else-refuse EndCount) ∷ []
 abbrev pub lastRules : (more : Bool) → List Rule
 lastRules more = (not more else-refuse TrailingBytes) ∷ []
 
--- 3 has the offset of the first byte past the end; the end is answered, and the state stays
+-- 3 has the offset of the first byte past the end
+abbrev pub refusedPast : State → (r : List ℕ) → Refusal → StepAnswer
+refusedPast s r why = refusedStep s why (s .«at» + length r)
+
+-- the end is answered, and the state stays
+abbrev pub endFound : State → (r : List ℕ) → StepAnswer
+endFound s r = record { «found» = found.End (endOf r); «place» = blankPlace; «next» = s }
+
 unfoldable pub endStep : (r : List ℕ) (more : Bool) → State → StepAnswer
-endStep r more s =
-    outcome (endRules r s)
-    (outcome (lastRules more)
-    (record { «found» = found.End (endOf r); «place» = blankPlace; «next» = s })
-    (λ why. refusedStep s why (s .«at» + length r)))
-    (refusedHere s)
+endStep r more s = outcome (endRules r s) (outcome (lastRules more) (endFound s r) (refusedPast s r)) (refusedHere s)
 
 unfoldable pub contentStep : Record → (r : List ℕ) (more : Bool) → State → StepAnswer
 contentStep records.Sheet r more s = sheetStep r s
@@ -102,17 +104,17 @@ stepOf b s = outcome ((ltb (s .«at») (length b) else-refuse Cut) ∷ []) (layo
 pub record StepReply : Type 0 where
   pub number : ℕ
   pub offset : ℕ
-  pub kind : ℕ
+  pub which : ℕ
   pub sheet : Sheet
   pub place : Place
   pub count : ℕ
   pub next : State
 
 abbrev pub foundReply : Found → Place → State → StepReply
-foundReply (found.Sheet h) p next = record { number = 0; offset = 0; kind = 1; sheet = h; place = p; count = 0; next = next }
-foundReply found.Place p next = record { number = 0; offset = 0; kind = 2; sheet = blankSheet; place = p; count = 0; next = next }
-foundReply (found.End count) p next = record { number = 0; offset = 0; kind = 3; sheet = blankSheet; place = p; count = count; next = next }
-foundReply (found.Refused why offset) p next = record { number = numberOf why; offset = offset; kind = 0; sheet = blankSheet; place = p; count = 0; next = next }
+foundReply (found.Sheet h) p next = record { number = 0; offset = 0; which = recordNumber records.Sheet; sheet = h; place = p; count = 0; next = next }
+foundReply found.Place p next = record { number = 0; offset = 0; which = recordNumber records.Place; sheet = blankSheet; place = p; count = 0; next = next }
+foundReply (found.End count) p next = record { number = 0; offset = 0; which = recordNumber records.End; sheet = blankSheet; place = p; count = count; next = next }
+foundReply (found.Refused why offset) p next = record { number = numberOf why; offset = offset; which = 0; sheet = blankSheet; place = p; count = 0; next = next }
 
 -- the number and the values that an answer stands for
 abbrev pub stepReplyOf : StepAnswer → StepReply

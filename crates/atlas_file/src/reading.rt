@@ -11,7 +11,7 @@ use sheet::Sheet;
 pub fn start(room: usize) -> State
     ensures { λ r. ⌜ r ≡ startOf room ⌝ }
 {
-    let sheet = records::blank_sheet();
+    let sheet = sheet::blank();
     State {
         at: 0,
         sheet_read: false,

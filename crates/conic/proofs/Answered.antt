@@ -6,14 +6,14 @@ use mathlib.Mathlib.Data.Bool.Basic.{and-elim-left, and-elim-right}
 use lib.IntN.{ℤ}
 use Rattle.arith.proofs.Order.{true-within}
 use Rattle.refusal.specs.declared.Refusal.the-variants.{OffSheet, OutOfRange}
-use Rattle.refusal.specs.Numbers.{accepted, refused}
+use Rattle.refusal.specs.Numbers.{Reply, accepted, refused}
 use Rattle.refusal.specs.Rules.{inOrder}
 use Rattle.refusal.proofs.Distinct.{same-values}
-use Rattle.refusal.proofs.InOrder.{others-decide, accepted-all-hold, both-hold}
+use Rattle.refusal.proofs.InOrder.{others-decide, accepted-all-hold, not-refused-all-hold, all-hold-good, both-hold}
 use Rattle.sheet.specs.declared.Sheet.{Sheet}
 use Rattle.sheet.specs.Sheets.{sheetRules, passesChecks, onSheet}
 use Rattle.conic.specs.Conic.{xOf, yOf, inRange, positionRules, forwardReply}
-use Rattle.conic.specs.Laws.{OnSheetAnswered, AnsweredOnSheet}
+use Rattle.conic.specs.Laws.{OnSheetAnswered, NotRefusedPoint, AnsweredOnSheet}
 use Rattle.conic.proofs.Ranges.{latitude-size, is-on-sheet}
 
 module _ (s : Sheet) (latitude longitude : ℤ) (p : passesChecks s ≡ true) where
@@ -35,6 +35,11 @@ module _ (s : Sheet) (latitude longitude : ℤ) (p : passesChecks s ≡ true) wh
 
 pub on-sheet-answered : OnSheetAnswered
 on-sheet-answered = answered
+
+pub not-refused-point : NotRefusedPoint
+not-refused-point s latitude longitude e =
+    let rules = sheetRules s ++ positionRules s latitude longitude in
+    all-hold-good Reply rules _ (refused 2) (not-refused-all-hold 2 rules _ e)
 
 pub answered-on-sheet : AnsweredOnSheet
 unfolding positionRules

@@ -22,9 +22,13 @@ DistinctMapReplies = (a b : MapAnswer) → mapReplyOf a ≡ mapReplyOf b → a �
 abbrev pub DistinctGlobeReplies : Type 0
 DistinctGlobeReplies = (a b : GlobeAnswer) → globeReplyOf a ≡ globeReplyOf b → a ≡ b
 
--- forward answers exactly what is on a sheet that passes its checks, and that with x and y (Answered)
+-- forward answers exactly what is on a sheet that passes its checks, and that with x and y; a reply with the number 0 is such an answer (Answered)
 abbrev pub OnSheetAnswered : Type 0
 OnSheetAnswered = (s : Sheet) (latitude longitude : ℤ) → passesChecks s ≡ true → onSheet s latitude longitude ≡ true →
+    forwardReply s latitude longitude ≡ accepted (xOf s latitude longitude ∷ yOf s latitude longitude ∷ [])
+
+abbrev pub NotRefusedPoint : Type 0
+NotRefusedPoint = (s : Sheet) (latitude longitude : ℤ) → forwardReply s latitude longitude .number ≡ 0 →
     forwardReply s latitude longitude ≡ accepted (xOf s latitude longitude ∷ yOf s latitude longitude ∷ [])
 
 abbrev pub AnsweredOnSheet : Type 0

@@ -10,6 +10,13 @@ use sheet::Verdict;
 use trig::Answer;
 
 fn main() {
+    show_steps();
+    show_projection();
+    show_sheets();
+    show_files();
+}
+
+fn show_steps() {
     show(b"angle", 1, trig::angle(1));
     show(b"angle", -1, trig::angle(-1));
     show(b"angle", 60000000, trig::angle(60000000));
@@ -25,6 +32,9 @@ fn main() {
     show(b"root", 2, trig::root(2));
     show(b"root", 3, trig::root(3));
     show(b"root", 0, trig::root(0));
+}
+
+fn show_projection() {
     let a = sheet_a(60000000, 536870912);
     show_forward(a, 31000000, 10000000);
     show_inverse(a, 0, 1000000);
@@ -36,97 +46,29 @@ fn main() {
     show_inverse(a, 49619601, 13295532);
     show_inverse(a, 0, 99239201);
     show_inverse(a, 536870913, 0);
+}
+
+fn show_sheets() {
     show_check(b"half-width", 60000001, sheet_a(60000001, 536870912));
     show_check(b"cone constant", 536870922, sheet_a(60000000, 536870922));
     show_check(b"cone constant", 536870944, sheet_a(60000000, 536870944));
-    let file = MILL;
-    show_read(b"79 bytes", &file);
-    show_read(b"78 bytes", &file[0..78]);
-    show_read(b"0 bytes", &file[0..0]);
 }
 
 // The file of sheet A and place 7, "Mill", at latitude 31 degrees.
-const MILL: [u8; 79] = [
-    1,
-    128,
-    195,
-    201,
-    1,
-    128,
-    195,
-    201,
-    1,
-    128,
-    195,
-    201,
-    1,
-    128,
-    150,
-    152,
-    0,
-    0,
-    45,
-    49,
-    1,
-    0,
-    90,
-    98,
-    2,
-    0,
-    135,
-    147,
-    3,
-    0,
-    0,
-    0,
-    32,
-    161,
-    8,
-    180,
-    7,
-    2,
-    7,
-    0,
-    0,
-    0,
-    192,
-    5,
-    217,
-    1,
-    128,
-    150,
-    152,
-    0,
-    0,
-    0,
-    0,
-    0,
-    64,
-    66,
-    15,
-    0,
-    77,
-    105,
-    108,
-    108,
-    0,
-    0,
-    0,
-    0,
-    0,
-    0,
-    0,
-    0,
-    0,
-    0,
-    0,
-    0,
-    3,
-    1,
-    0,
-    0,
-    0,
-];
+fn show_files() {
+    show_cuts(
+        b"\x01\x80\xc3\xc9\x01\x80\xc3\xc9\x01\x80\xc3\xc9\x01\x80\x96\x98\x00\x00\x2d\x31\x01\x00\x5a\x62\x02\x00\x87\x93\x03\x00\x00\x00\x20\xa1\x08\xb4\x07\x02\x07\x00\x00\x00\xc0\x05\xd9\x01\x80\x96\x98\x00\x00\x00\x00\x00\x40\x42\x0f\x00Mill\x00\x00\x00\x00\x00\x00\x00\x00\x00\x00\x00\x00\x03\x01\x00\x00\x00",
+    );
+}
+
+// A file, all but its last byte, and none of it.
+fn show_cuts(file: &[u8]) {
+    show_read(b"79 bytes", file);
+    if 78 <= file.len() {
+        show_read(b"78 bytes", &file[0..78]);
+    }
+    show_read(b"0 bytes", &file[0..0]);
+}
 
 // Sheet A with a half-width and a cone constant.
 fn sheet_a(half_width: u32, cone_constant: u32) -> Sheet {

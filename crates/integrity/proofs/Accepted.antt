@@ -8,8 +8,7 @@ use lib.Dec.{ltb, leb}
 use borrow.Author.Tests.{ltb-true, ltb-false, leb-true, le-leb}
 use native.Mathlib.Nat.{add-zero, zero-add}
 use native.Mathlib.Omega.{arith}
-use lib.ListN.{length, getD, drop, length-append, List·getD-append, List·getD-eq-default}
-use lib.Seq.{getD-drop, append-snoc}
+use lib.ListN.{length, getD, drop, length-append, List·getD-eq-default}
 use lib.IntN.{pos}
 use Rattle.refusal.specs.declared.Refusal.the-variants.{Cut}
 use Rattle.refusal.specs.Numbers.{Reply, accepted}
@@ -21,53 +20,41 @@ use Rattle.records.specs.declared.Record.the-variants as records
 use Rattle.place.specs.declared.Place.{Place}
 use Rattle.atlas_file.specs.declared.State.{State}
 use Rattle.atlas_file.specs.declared.StepAnswer.{StepAnswer}
-use Rattle.records.specs.Records.{IsRecord, sheetOf, placeOf, endOf}
+use Rattle.records.specs.Records.{IsRecord, sheetOf, placeOf, sheetRecord, placeRecord, endRecord}
 use Rattle.place.specs.Places.{placeRules}
 use Rattle.atlas_file.specs.Steps.{pastSheet, pastPlace, mostPlaces, refusedStep}
 use Rattle.atlas_file.specs.Reading.{Reading, acceptedReading, startOf, readFrom, readOf, readReply, placesRead}
-use Rattle.atlas_file.proofs.Views.{Stepped, refused, sheet, place, end, view}
+use Rattle.atlas_file.proofs.Views.{byte-at, Stepped, refused, sheet, place, end, view}
 use Rattle.records.specs.Numbers.{Bytes}
-use Rattle.records.specs.Records.{sheetRecord, placeRecord, endRecord}
 use Rattle.atlas_file.specs.Writing.{placeRecords, fileOf, placesRules, listRules, writeRules}
 use Rattle.integrity.specs.Integrity.{FileLength, CountIsPlaces, ReadIsGood, LongestFile, WritesBack, WriterAccepts}
 use Rattle.refusal.proofs.InOrder.{both-hold, hold-together, all-hold-good}
-use Rattle.records.proofs.SheetRecords.{sheet-length, sheet-most, sheet-forth}
-use Rattle.records.proofs.PlaceRecords.{place-length, place-forth, end-length, end-forth}
+use Rattle.records.proofs.SheetRecords.{sheet-as-long, sheet-most, sheet-forth}
+use Rattle.records.proofs.PlaceRecords.{place-forth, end-forth}
 use Rattle.records.specs.Laws.{longestSheetRecord}
 use Rattle.atlas_file.proofs.Moves.{behind}
 use Rattle.atlas_file.proofs.Turns.{afterStep}
+use Rattle.integrity.proofs.RunReads.{Run, ends, goes, run-length, file-reads}
 
--- from a state on, behind the sheet, the file has the records of these places and the end
-pub data Run (b : List ℕ) : State → List Place → Type 0 where
-  ends : {s : State} (r : List ℕ) → IsRecord records.End r → drop (s .«at») b ≡ r → endOf r ≡ s .«count» → Run b s []
-  goes : {s : State} {ps : List Place} (r rest : List ℕ) → IsRecord records.Place r → drop (s .«at») b ≡ r ++ rest → s .«count» < mostPlaces → s .«count» < s .«room» →
-      allHold (placeRules (s .«sheet») (s .«count») (s .«last_id») (placeOf r)) ≡ true → Run b (pastPlace s r) ps → Run b s (placeOf r ∷ ps)
-
--- reading on from such a state, to the end
-abbrev Reads : (b : List ℕ) (s : State) (places : List Place) (R : Reading) → Type 0
-Reads b s places R = (ps : List Place) × Run b s ps × (R ≡ acceptedReading (s .«count» + length ps) (s .«sheet») (places ++ ps))
-
+-- a file that is read from such a state to its end
 runs-turn : (n : ℕ) (b : List ℕ) (s : State) (places : List Place) {r : StepAnswer} → Stepped b s r → s .«sheet_read» ≡ true → afterStep n b s places r .reply .number ≡ 0 →
-    ((t : State) (qs : List Place) → t .«sheet_read» ≡ true → readFrom n b t qs .reply .number ≡ 0 → Reads b t qs (readFrom n b t qs)) →
-    Reads b s places (afterStep n b s places r)
+    ((t : State) (qs : List Place) → t .«sheet_read» ≡ true → readFrom n b t qs .reply .number ≡ 0 → (ps : List Place) × Run b t ps) →
+    (ps : List Place) × Run b s ps
 unfolding refusedStep
 runs-turn n b s places (refused why offset) read e on = absurd (no-number-zero why e)
 runs-turn n b s places (sheet r rest i at unread ok) read e on = absurd (true≢false (sym read ∙ unread))
 runs-turn n b s places (place r rest i at _ few room ok) read e on =
     let o = on (pastPlace s r) (places ++ (placeOf r ∷ [])) read e in
-    let count : s .«count» + 1 + length (o .0) ≡ s .«count» + suc (length (o .0)) = omega arith in
-    (placeOf r ∷ o .0, goes r rest i at few room ok (o .1), o .2 ∙ (λ j. acceptedReading (count j) (s .«sheet») (append-snoc places (placeOf r) (o .0) j)))
-runs-turn n b s places (end r i at _ same) read e on =
-    ([], ends r i at same, λ j. acceptedReading ((same ∙ sym (add-zero (s .«count»))) j) (s .«sheet») (sym (append-nil places) j))
+    (placeOf r ∷ o .0, goes r rest i at few room ok (o .1))
+runs-turn n b s places (end r i at _ same) read e on = ([], ends r i at same)
 
-runs : (n : ℕ) (b : List ℕ) (s : State) (places : List Place) → s .«sheet_read» ≡ true → readFrom n b s places .reply .number ≡ 0 →
-    Reads b s places (readFrom n b s places)
+runs : (n : ℕ) (b : List ℕ) (s : State) (places : List Place) → s .«sheet_read» ≡ true → readFrom n b s places .reply .number ≡ 0 → (ps : List Place) × Run b s ps
 unfolding readFrom
 runs zero b s places read e = absurd (no-number-zero Cut e)
 runs (suc n) b s places read e = runs-turn n b s places (view b s) read e (runs n b)
 
 -- an accepted file: the sheet's record r at its front, then such a run of its places
-pub record Whole (b : List ℕ) (room : ℕ) (R : Reading) : Type 0 where
+pub record Whole (b : List ℕ) (room : ℕ) : Type 0 where
   pub bytes : List ℕ
   pub rest : List ℕ
   pub places : List Place
@@ -75,10 +62,10 @@ pub record Whole (b : List ℕ) (room : ℕ) (R : Reading) : Type 0 where
   pub front : b ≡ bytes ++ rest
   pub good : allHold (sheetRules (sheetOf bytes)) ≡ true
   pub run : Run b (pastSheet (startOf room) bytes) places
-  pub reads : R ≡ acceptedReading (length places) (sheetOf bytes) places
+  pub reads : readOf b room ≡ acceptedReading (length places) (sheetOf bytes) places
 
 whole-turn : (n : ℕ) (b : List ℕ) (room : ℕ) {r : StepAnswer} → Stepped b (startOf room) r → afterStep n b (startOf room) [] r .reply .number ≡ 0 →
-    Whole b room (afterStep n b (startOf room) [] r)
+    Whole b room
 unfolding refusedStep startOf
 whole-turn n b room (refused why offset) e = absurd (no-number-zero why e)
 whole-turn n b room (sheet r rest i at unread ok) e =
@@ -91,23 +78,14 @@ whole-turn n b room (sheet r rest i at unread ok) e =
       front = at;
       good = ok;
       run = o .1;
-      reads = o .2 ∙ ap (λ k. acceptedReading k (sheetOf r) (o .0)) (zero-add (length (o .0)));
+      reads = file-reads b room r rest (o .0) i at ok (o .1);
     }
 whole-turn n b room (place r rest i at read few fits ok) e = absurd (true≢false (sym read))
 whole-turn n b room (end r i at read same) e = absurd (true≢false (sym read))
 
-pub whole : (b : List ℕ) (room : ℕ) → readOf b room .reply .number ≡ 0 → Whole b room (readOf b room)
+pub whole : (b : List ℕ) (room : ℕ) → readOf b room .reply .number ≡ 0 → Whole b room
 unfolding readOf readFrom
 whole b room e = whole-turn (length b) b room (view b (startOf room)) e
-
--- ---- the length
-
-pub run-length : {b : List ℕ} {s : State} {ps : List Place} → Run b s ps → length (drop (s .«at») b) ≡ 37 * length ps + 5
-run-length (ends r i at same) = ap length at ∙ end-length r i
-run-length {b} {s} (goes r rest i at few room ok run) =
-    let l : length (drop (s .«at») b) ≡ length r + length rest = ap length at ∙ length-append r rest in
-    let k : length rest ≡ _ = ap length (sym (behind b r rest (s .«at») at)) ∙ run-length run in
-    omega (arith, place-length r i)
 
 -- ---- the count
 
@@ -119,8 +97,7 @@ run-count (goes r rest i at few room ok run) m f = let k = run-count run (omega 
 -- ---- the bytes and the rules
 
 byte-of-part : (b r rest : List ℕ) (at i : ℕ) → Bytes b → drop at b ≡ r ++ rest → (inside : Bool) → ltb i (length r) ≡ inside → getD r i 0 < 256
-byte-of-part b r rest at i h e true l =
-    subst (λ (k : ℕ). k < 256) (sym (getD-drop at b i 0) ∙ ap (λ (m : List ℕ). getD m i 0) e ∙ List·getD-append r rest 0 i (ltb-true _ _ l)) (h (at + i))
+byte-of-part b r rest at i h e true l = subst (λ (k : ℕ). k < 256) (byte-at b r rest at i e (ltb-true _ _ l)) (h (at + i))
 byte-of-part b r rest at i h e false l = subst (λ (k : ℕ). k < 256) (sym (List·getD-eq-default r 0 (ltb-false _ _ l))) (omega arith)
 
 bytes-of-part : (b r rest : List ℕ) (at : ℕ) → Bytes b → drop at b ≡ r ++ rest → Bytes r
@@ -156,30 +133,30 @@ list-parts s ps e =
 
 -- ---- of the whole file
 
-module _ {b : List ℕ} {room : ℕ} {R : Reading} (w : Whole b room R) where
-  -- what is shown of what was read is shown of R
-  of-reading : (P : Reading → Type 0) → P (acceptedReading (length (w .places)) (sheetOf (w .bytes)) (w .places)) → P R
+module _ {b : List ℕ} {room : ℕ} (w : Whole b room) where
+  -- what is shown of what was read is shown of the reading
+  of-reading : (P : Reading → Type 0) → P (acceptedReading (length (w .places)) (sheetOf (w .bytes)) (w .places)) → P (readOf b room)
   of-reading P = subst P (sym (w .reads))
 
   behind-sheet : drop (0 + length (w .bytes)) b ≡ w .rest
   behind-sheet = behind b (w .bytes) (w .rest) 0 (w .front)
 
-  whole-length : length b ≡ length (sheetRecord (R .reply .sheet)) + 37 * R .reply .count + 5
+  whole-length : length b ≡ length (sheetRecord (readReply b room .sheet)) + 37 * readReply b room .count + 5
   unfolding startOf
   whole-length =
       let l : length b ≡ length (w .bytes) + length (w .rest) = ap length (w .front) ∙ length-append (w .bytes) (w .rest) in
       let k : length (w .rest) ≡ 37 * length (w .places) + 5 = ap length (sym behind-sheet) ∙ run-length (w .run) in
       of-reading (λ X. length b ≡ length (sheetRecord (X .reply .sheet)) + 37 * X .reply .count + 5)
-      (omega (arith, sheet-length (w .bytes) (w .is-sheet)))
+      (omega (arith, sheet-as-long (w .bytes) (w .is-sheet)))
 
-  whole-count : (R .reply .count ≡ length (R .places)) × (R .reply .count ≤ mostPlaces) × (R .reply .count ≤ room)
+  whole-count : (readReply b room .count ≡ length (placesRead b room)) × (readReply b room .count ≤ mostPlaces) × (readReply b room .count ≤ room)
   unfolding startOf
   whole-count =
       let k = run-count (w .run) (omega arith) (omega arith) in
       of-reading (λ X. (X .reply .count ≡ length (X .places)) × (X .reply .count ≤ mostPlaces) × (X .reply .count ≤ room))
       (refl, omega (arith, k .0), omega (arith, k .1))
 
-  whole-bytes : Bytes b → fileOf (R .reply .sheet) (R .places) ≡ b
+  whole-bytes : Bytes b → fileOf (readReply b room .sheet) (placesRead b room) ≡ b
   unfolding startOf fileOf
   whole-bytes h = of-reading (λ X. fileOf (X .reply .sheet) (X .places) ≡ b)
       (let first = sheet-forth (w .bytes) (w .is-sheet) (bytes-of-part b (w .bytes) (w .rest) 0 h (w .front)) in
@@ -187,15 +164,15 @@ module _ {b : List ℕ} {room : ℕ} {R : Reading} (w : Whole b room R) where
       let others = ap (λ e. placeRecords (w .places) ++ e) (sym count) ∙ sym (run-bytes h (w .run)) ∙ behind-sheet in
       append-assoc (sheetRecord (sheetOf (w .bytes))) (placeRecords (w .places)) _ ∙ (λ j. first j ++ others j) ∙ sym (w .front))
 
-  whole-rules : allHold (listRules (R .reply .sheet) (R .places)) ≡ true
+  whole-rules : allHold (listRules (readReply b room .sheet) (placesRead b room)) ≡ true
   unfolding startOf listRules
   whole-rules = of-reading (λ X. allHold (listRules (X .reply .sheet) (X .places)) ≡ true)
       (hold-together (sheetRules (sheetOf (w .bytes))) _ (w .good)
       (let k = run-count (w .run) (omega arith) (omega arith) in
       rw (le-leb (length (w .places)) mostPlaces (omega (arith, k .0))) (run-rules (w .run))))
 
-  sheet-longest : length (sheetRecord (R .reply .sheet)) ≤ longestSheetRecord
-  sheet-longest = of-reading (λ X. length (sheetRecord (X .reply .sheet)) ≤ longestSheetRecord) (omega (arith, sheet-length (w .bytes) (w .is-sheet), sheet-most (w .bytes) (w .is-sheet)))
+  sheet-longest : length (sheetRecord (readReply b room .sheet)) ≤ longestSheetRecord
+  sheet-longest = of-reading (λ X. length (sheetRecord (X .reply .sheet)) ≤ longestSheetRecord) (omega (arith, sheet-as-long (w .bytes) (w .is-sheet), sheet-most (w .bytes) (w .is-sheet)))
 
 pub file-length : FileLength
 file-length b room e = whole-length (whole b room e)

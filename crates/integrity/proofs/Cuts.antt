@@ -1,15 +1,14 @@
 -- A good file that is cut short is refused with 1, and the first bytes of anything decide. Assumes nothing.
 use mathlib.Core.Path.{_≡_, refl, ap, _∙_}
-use mathlib.Core.Bool.{Bool, true, false, not, cond}
+use mathlib.Core.Bool.{Bool, true, false, cond}
 use mathlib.Core.List.{List, [], _∷_, _++_}
-use mathlib.Mathlib.Data.Bool.Basic.{and-elim-left}
 use Prim.Native.Nat.{ℕ, zero, suc, _+_, _*_, _≤_, _<_}
 use native.Mathlib.Nat.{le-refl}
 use native.Mathlib.Omega.{arith}
 use lib.ListN.{length, getD, take, drop, replicate, length-append, length-drop, length-replicate, take-append-drop, List·getD-append}
 use lib.Seq.{length-take-le, drop-append-le, take-append-le, take-all}
 use lib.Dec.{ltb, leb}
-use borrow.Author.Tests.{ltb-true, ltb-false, leb-true, leb-false, lt-ltb, not-true}
+use borrow.Author.Tests.{ltb-true, ltb-false, leb-true, leb-false, lt-ltb}
 use Rattle.arith.proofs.Choose.{choose}
 use Rattle.refusal.specs.declared.Refusal.{Refusal}
 use Rattle.refusal.specs.declared.Refusal.the-variants.{Cut, TrailingBytes}
@@ -33,7 +32,7 @@ use Rattle.integrity.specs.Integrity.{longestFile, CutRefused, FirstByte
 use Rattle.records.proofs.SheetRecords.{sheet-most}
 use Rattle.records.proofs.PlaceRecords.{place-length, end-length}
 use Rattle.integrity.proofs.Rooms.{room-enough}
-use Rattle.atlas_file.proofs.Views.{is-whole, a-record, place-due}
+use Rattle.atlas_file.proofs.Views.{is-whole, a-record, sheet-due, place-due, end-due}
 use Rattle.atlas_file.proofs.Turns.{afterStep, read-turn, record-turn}
 
 -- Reading a file that starts with so many bytes and has more, and reading those alone. Both refuse the same; or these alone are cut; or the file has bytes past an end. In the last two cases there are no more of them than a file can have.
@@ -50,15 +49,6 @@ record Early (s : State) : Type 0 where
 -- a kind byte and a body of zeros
 blank-record : (which : Record) (k body : ℕ) → layoutOf k ≡ Known which body → IsRecord which (k ∷ replicate body 0)
 blank-record which k body e = record { body = body; layout = e; whole = ap suc (length-replicate body 0) }
-
--- what the rules of due records tell
-sheet-due : (s : State) → allHold (dueRules records.Sheet s) ≡ true → s .«sheet_read» ≡ false
-unfolding dueRules
-sheet-due s due = not-true _ (and-elim-left (not (s .«sheet_read»)) _ due)
-
-end-due : (s : State) → allHold (dueRules records.End s) ≡ true → s .«sheet_read» ≡ true
-unfolding dueRules
-end-due s due = and-elim-left (s .«sheet_read») _ due
 
 module _ (s : State) (early : Early s) where
   before : s .«sheet_read» ≡ false → s .«at» ≤ 0

@@ -1,7 +1,7 @@
 -- What an accepted file is, and what follows.
+pub mod RunReads
 pub mod Accepted
 pub mod Shown
-pub mod RunReads
 pub mod Rooms
 pub mod Returns
 pub mod Cuts

@@ -21,8 +21,8 @@ use Rattle.integrity.specs.Integrity.{ArePlaces, ReadsBack}
 use Rattle.records.proofs.SheetRecords.{sheet-kind, sheet-back}
 use Rattle.records.proofs.PlaceRecords.{place-kind, place-back, end-kind, end-back}
 use Rattle.atlas_file.proofs.Moves.{behind}
-use Rattle.integrity.proofs.Accepted.{Run, ends, goes, list-parts}
-use Rattle.integrity.proofs.RunReads.{file-reads}
+use Rattle.integrity.proofs.Accepted.{list-parts}
+use Rattle.integrity.proofs.RunReads.{Run, ends, goes, file-reads}
 
 -- the records of places that the writer does not refuse are such a run
 written : (s : Sheet) (room : ℕ) (b : List ℕ) (at count last : ℕ) (ps : List Place) → ArePlaces ps → allHold (placesRules s count last ps) ≡ true →

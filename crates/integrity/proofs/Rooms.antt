@@ -17,11 +17,11 @@ use Rattle.place.specs.Places.{placeRules}
 use Rattle.atlas_file.specs.Steps.{pastPlace, mostPlaces, refusedStep}
 use Rattle.atlas_file.specs.Reading.{Reading, refusedReading, startOf, readFrom}
 use Rattle.integrity.specs.Integrity.{RoomEnough, RoomShort}
-use Rattle.records.proofs.SheetRecords.{sheet-length}
+use Rattle.records.proofs.SheetRecords.{sheet-as-long}
 use Rattle.records.proofs.PlaceRecords.{place-length}
 use Rattle.atlas_file.proofs.Turns.{afterStep, read-turn}
-use Rattle.integrity.proofs.Accepted.{Run, ends, goes, whole}
-use Rattle.integrity.proofs.RunReads.{sheet-first, place-reads, full-refuses, run-short, file-reads}
+use Rattle.integrity.proofs.Accepted.{whole}
+use Rattle.integrity.proofs.RunReads.{Run, ends, goes, sheet-first, place-reads, full-refuses, run-short, file-reads}
 
 -- the same run with other room, for one state and another that differ in it alone
 abbrev withRoom : State → ℕ → State
@@ -75,7 +75,7 @@ unfolding Short startOf
 room-short b room other e h =
     let w = whole b room e in
     let k : other < length (w .places) = subst (λ (X : Reading). other < X .reply .count) (w .reads) h in
-    let offset : 0 + length (w .bytes) + 37 * (other - 0) ≡ length (sheetRecord (sheetOf (w .bytes))) + 37 * other = omega (arith, sheet-length (w .bytes) (w .is-sheet)) in
+    let offset : 0 + length (w .bytes) + 37 * (other - 0) ≡ length (sheetRecord (sheetOf (w .bytes))) + 37 * other = omega (arith, sheet-as-long (w .bytes) (w .is-sheet)) in
     sheet-first b other (w .bytes) (w .rest) (w .is-sheet) (w .front) (w .good)
     ∙ no-room (length b) other [] (w .run) refl (omega arith) (omega arith) (run-short (w .run))
     ∙ subst (λ (X : Reading). refusedReading NoRoom (0 + length (w .bytes) + 37 * (other - 0)) ≡ refusedReading NoRoom (length (sheetRecord (X .reply .sheet)) + 37 * other)) (sym (w .reads)) (ap (refusedReading NoRoom) offset)

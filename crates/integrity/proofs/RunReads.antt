@@ -2,17 +2,16 @@
 use mathlib.Core.Path.{_≡_, refl, sym, ap, _∙_}
 use mathlib.Core.Bool.{true, false}
 use mathlib.Core.List.{List, [], _∷_, _++_, append-nil}
-use Prim.Native.Nat.{ℕ, zero, suc, _+_, _-_, _≤_, _<_}
+use Prim.Native.Nat.{ℕ, zero, suc, _+_, _*_, _≤_, _<_}
 use native.Mathlib.Nat.{add-zero, zero-add}
 use native.Mathlib.Omega.{arith}
-use lib.ListN.{length, getD, take, drop, length-drop, length-append, List·getD-append}
-use lib.Seq.{getD-drop, take-at, append-snoc}
+use lib.ListN.{length, getD, take, drop, length-drop, length-append}
+use lib.Seq.{take-at, append-snoc}
 use lib.Dec.{ltb}
 use borrow.Author.Tests.{lt-ltb, le-ltb, eq-eqb}
 use Rattle.refusal.specs.declared.Refusal.the-variants.{Cut, NoRoom}
 use Rattle.refusal.specs.Rules.{_else-refuse_, allHold}
 use Rattle.refusal.proofs.InOrder.{all-hold-good, hold-together}
-use Rattle.sheet.specs.declared.Sheet.{Sheet}
 use Rattle.sheet.specs.Sheets.{sheetRules}
 use Rattle.records.specs.declared.Record.{Record}
 use Rattle.records.specs.declared.Record.the-variants as records
@@ -23,13 +22,13 @@ use Rattle.atlas_file.specs.declared.State.{State}
 use Rattle.atlas_file.specs.declared.Found.the-variants as found
 use Rattle.atlas_file.specs.declared.StepAnswer.{StepAnswer}
 use Rattle.records.specs.Records.{layoutOf, IsRecord, sheetOf, placeOf, endOf}
-use Rattle.place.specs.Places.{placeRules}
+use Rattle.place.specs.Places.{placeRules, blankPlace}
 use Rattle.atlas_file.specs.Steps.{pastSheet, pastPlace, mostPlaces, refusedStep, refusedHere, dueRules, endRules, lastRules, sheetStep, placeStep, endStep, contentStep, recordStep, layoutStep, stepOf}
-use Rattle.place.specs.Places.{blankPlace}
 use Rattle.atlas_file.specs.Reading.{acceptedReading, startOf, readFrom, readOf}
+use Rattle.atlas_file.proofs.Views.{first-byte}
 use Rattle.atlas_file.proofs.Turns.{afterStep, read-turn}
-use Rattle.atlas_file.proofs.Moves.{further}
-use Rattle.integrity.proofs.Accepted.{Run, ends, goes, whole, run-length}
+use Rattle.records.proofs.PlaceRecords.{place-length, end-length}
+use Rattle.atlas_file.proofs.Moves.{further, behind}
 
 -- the step at a whole record
 module _ (b : List ℕ) (s : State) (which : Record) (r rest : List ℕ) (i : IsRecord which r) (at : drop (s .«at») b ≡ r ++ rest) where
@@ -37,10 +36,7 @@ module _ (b : List ℕ) (s : State) (which : Record) (r rest : List ℕ) (i : Is
   left = drop (s .«at») b
 
   layout-is : layoutOf (getD b (s .«at») 0) ≡ Known which (i .body)
-  layout-is =
-      ap layoutOf (sym (ap (λ (k : ℕ). getD b k 0) (add-zero (s .«at»))) ∙ sym (getD-drop (s .«at») b 0 0) ∙ ap (λ (l : List ℕ). getD l 0 0) at
-      ∙ List·getD-append r rest 0 0 (omega (arith, i .whole)))
-      ∙ i .layout
+  layout-is = ap layoutOf (first-byte b r rest (s .«at») at (omega (arith, i .whole))) ∙ i .layout
 
   front : take (suc (i .body)) left ≡ r
   front = ap (take (suc (i .body))) at ∙ take-at r rest (suc (i .body)) (i .whole)
@@ -92,6 +88,19 @@ end-reads b s r i at read same =
     step-is b s records.End r [] i (at ∙ sym (append-nil r)) (rw read refl)
     ∙ all-hold-good StepAnswer (endRules r s) _ (refusedHere s) (rw (eq-eqb (endOf r) (s .«count») same) refl)
     ∙ all-hold-good StepAnswer (lastRules (ltb (length r) (length r + 0))) _ (λ why. refusedStep s why (s .«at» + length r)) (rw (le-ltb (length r) (length r + 0) (omega arith)) refl)
+
+-- from a state on, behind the sheet, the file has the records of these places and the end
+pub data Run (b : List ℕ) : State → List Place → Type 0 where
+  ends : {s : State} (r : List ℕ) → IsRecord records.End r → drop (s .«at») b ≡ r → endOf r ≡ s .«count» → Run b s []
+  goes : {s : State} {ps : List Place} (r rest : List ℕ) → IsRecord records.Place r → drop (s .«at») b ≡ r ++ rest → s .«count» < mostPlaces → s .«count» < s .«room» →
+      allHold (placeRules (s .«sheet») (s .«count») (s .«last_id») (placeOf r)) ≡ true → Run b (pastPlace s r) ps → Run b s (placeOf r ∷ ps)
+
+pub run-length : {b : List ℕ} {s : State} {ps : List Place} → Run b s ps → length (drop (s .«at») b) ≡ 37 * length ps + 5
+run-length (ends r i at same) = ap length at ∙ end-length r i
+run-length {b} {s} (goes r rest i at few room ok run) =
+    let l : length (drop (s .«at») b) ≡ length r + length rest = ap length at ∙ length-append r rest in
+    let k : length rest ≡ _ = ap length (sym (behind b r rest (s .«at») at)) ∙ run-length run in
+    omega (arith, place-length r i)
 
 -- a run has fewer places than there are bytes
 pub run-short : {b : List ℕ} {s : State} {ps : List Place} → Run b s ps → length ps < length b

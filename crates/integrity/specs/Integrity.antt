@@ -83,7 +83,7 @@ abbrev pub FileLength : Type 0
 FileLength = (b : List ℕ) (room : ℕ) → readReply b room .number ≡ 0 →
     length b ≡ length (sheetRecord (readReply b room .sheet)) + 37 * readReply b room .count + 5
 
--- so it is no longer than its sheet's record and 37,005 bytes more: 37,042 today (Accepted)
+-- so it is no longer than its sheet's record and 37,005 bytes more: with a sheet's record of 37 bytes, 37,042 (Accepted)
 abbrev pub longestFile : ℕ
 longestFile = longestSheetRecord + 37005
 
@@ -91,6 +91,6 @@ abbrev pub LongestFile : Type 0
 LongestFile = (b : List ℕ) (room : ℕ) → readReply b room .number ≡ 0 →
     (length b ≤ length (sheetRecord (readReply b room .sheet)) + 37005) × (length b ≤ longestFile)
 
--- and reading the first 37,043 bytes of anything (today), or more, gives the answer of the whole (Cuts)
+-- and reading the first 37,043 bytes of anything, or more, gives the answer of the whole (Cuts)
 abbrev pub FirstBytesDecide : Type 0
 FirstBytesDecide = (b : List ℕ) (room k : ℕ) → longestFile < k → readOf (take k b) room ≡ readOf b room

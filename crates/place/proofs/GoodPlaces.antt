@@ -1,7 +1,7 @@
 -- What holds of a place that is not refused. Assumes nothing.
 use mathlib.Core.Bool.{true, false}
 use mathlib.Core.Path.{_≡_, subst, _∙_}
-use mathlib.Core.List.{[], _∷_, _++_}
+use mathlib.Core.List.{[], _∷_}
 use mathlib.Mathlib.Data.Bool.Basic.{and-elim-left, and-elim-right}
 use native.Mathlib.Omega.{arith}
 use borrow.Author.Tests.{eqb-true, ltb-true, ne-eqb}
@@ -9,11 +9,9 @@ use lib.Dec.{eqb}
 use lib.IntN.{ℤ}
 use Rattle.arith.specs.Bounds.{isWithin}
 use Rattle.arith.proofs.Order.{≤ℤ-antisymm, within-true}
-use Rattle.refusal.specs.Numbers.{Reply, accepted, refused}
-use Rattle.refusal.proofs.InOrder.{not-refused-all-hold, all-hold-good}
-use Rattle.sheet.specs.declared.Sheet.{Sheet}
-use Rattle.sheet.specs.Sheets.{sheetRules}
-use Rattle.conic.specs.Conic.{positionRules, xOf, yOf, forwardReply}
+use Rattle.refusal.specs.Numbers.{Reply, accepted}
+use Rattle.conic.specs.Conic.{xOf, yOf, forwardReply}
+use Rattle.conic.proofs.Answered.{not-refused-point}
 use Rattle.place.specs.Places.{rises, isAt, placeRulesAt, placeRules}
 use Rattle.place.specs.Laws.{OwnPosition, AboveTheLast}
 
@@ -21,19 +19,12 @@ use Rattle.place.specs.Laws.{OwnPosition, AboveTheLast}
 same : (a z : ℤ) → isWithin a a z ≡ true → z ≡ a
 same a z e = let h = within-true {lo = a} {hi = a} {z = z} e in ≤ℤ-antisymm (h .high) (h .low)
 
--- globe to map that does not refuse gives x and y
-answered : (s : Sheet) (latitude longitude : ℤ) → forwardReply s latitude longitude .number ≡ 0 →
-    forwardReply s latitude longitude ≡ accepted (xOf s latitude longitude ∷ yOf s latitude longitude ∷ [])
-answered s latitude longitude e =
-    let rules = sheetRules s ++ positionRules s latitude longitude in
-    all-hold-good Reply rules _ (refused 2) (not-refused-all-hold 2 rules _ e)
-
 pub own-position : OwnPosition
 unfolding placeRules placeRulesAt
 own-position s count last p e =
     let position = forwardReply s (p .«latitude») (p .«longitude») in
     let known = and-elim-right (rises count last (p .«id»)) _ e in
-    let found = answered s (p .«latitude») (p .«longitude») (eqb-true _ _ (and-elim-left (eqb (position .number) 0) _ known)) in
+    let found = not-refused-point s (p .«latitude») (p .«longitude») (eqb-true _ _ (and-elim-left (eqb (position .number) 0) _ known)) in
     let there = and-elim-left (isAt position (p .«x») (p .«y»)) _ (and-elim-right (eqb (position .number) 0) _ known) in
     let at : isAt (accepted (xOf s (p .«latitude») (p .«longitude») ∷ yOf s (p .«latitude») (p .«longitude») ∷ [])) (p .«x») (p .«y») ≡ true =
     subst (λ (r : Reply). isAt r (p .«x») (p .«y») ≡ true) found there in

@@ -6,7 +6,7 @@ use native.Mathlib.Nat.{add-zero, add-assoc}
 use native.Mathlib.Numerals.{add-one}
 use native.Mathlib.Omega.{arith}
 use lib.ListN.{getD, length, take, drop, set, length-append, length-set, take-append-drop, drop-of-length-le}
-use lib.Seq.{sets-eq, length-take-le, take-at, drop-at, drop-drop, drop-cons}
+use lib.Seq.{take-length, sets-eq, length-take-le, take-at, drop-at, drop-drop, drop-cons}
 use Rattle.records.specs.Numbers.{u32Bytes, numbersBytes, put}
 
 pub put-none : (l : List ℕ) (at : ℕ) → put l at [] ≡ l
@@ -67,3 +67,12 @@ module _ (l m us vs : List ℕ) (kind : ℕ) (numbers : m ≡ put (set l 0 kind)
   written-before n rest at f a e =
       rw (f, a, numbers, same, ← (put-append (set l 0 kind) 1 (numbersBytes vs) (omega (arith, length-set l 0 kind, length-append (numbersBytes vs) rest)) rest))
       (put-behind l kind (numbersBytes vs ++ rest) e)
+
+-- what `bytes::copy` leaves in a list as long as the one that is copied
+pub copied : (s d : List ℕ) → length d ≡ length s → take (length s) s ++ drop (length s) d ≡ s
+copied s d e = rw (take-length s, drop-of-length-le d {i = length s} (omega arith)) (append-nil s)
+
+-- a lent part that holds vs afterwards
+pub put-part : (l : List ℕ) (at k : ℕ) (vs : List ℕ) → k ≡ length vs → take at l ++ (vs ++ drop k (drop at l)) ≡ put l at vs
+unfolding put
+put-part l at k vs e = rw (e, drop-drop (length vs) at l) (sym (append-assoc (take at l) vs (drop (at + length vs) l)))

@@ -8,7 +8,7 @@ use Rattle.sheet.specs.declared.Sheet.{Sheet}
 use Rattle.records.specs.declared.Record.the-variants as records
 use Rattle.records.specs.Numbers.{i32At, u32Bytes, numbersBytes}
 use Rattle.records.specs.Records.{layoutOf, IsRecord, sheetOf, sheetRecord}
-use Rattle.records.specs.Laws.{SheetKind, SheetBack, SheetForth, SheetLength, SheetMost, SheetDecoded}
+use Rattle.records.specs.Laws.{SheetKind, SheetBack, SheetForth, SheetAsLong, SheetMost, SheetDecoded}
 use Rattle.records.proofs.NumberLaws.{u32-back, i32-back, u32-below, i32-below, u32-then, i32-then}
 use Rattle.records.proofs.KindBytes.{row, whole-record}
 
@@ -54,14 +54,14 @@ sheet-back s h =
     (u32-back _ [] (h .n))
     (i32-back _ [] (h .g))
 
--- today all have one length
-pub has-length : (r : List ℕ) → IsRecord records.Sheet r → length r ≡ 37
-has-length r k = k .whole ∙ ap suc (row records.Sheet (getD r 0 0) (k .body) (k .layout) .1)
+-- all have one length
+pub sheet-has-length : (r : List ℕ) → IsRecord records.Sheet r → length r ≡ 37
+sheet-has-length r k = k .whole ∙ ap suc (row records.Sheet (getD r 0 0) (k .body) (k .layout) .1)
 
 pub sheet-forth : SheetForth
 unfolding sheetOf sheetRecord numbersBytes
 sheet-forth r k b =
-    let n = has-length r k in
+    let n = sheet-has-length r k in
     whole-record 1 (row records.Sheet (getD r 0 0) (k .body) (k .layout) .0) (omega arith)
     (i32-then r b 1 (omega arith)
     (i32-then r b 5 (omega arith)
@@ -74,12 +74,12 @@ sheet-forth r k b =
     (i32-then r b 33 (omega arith)
     (sym (drop-of-length-le r {i = 37} (omega arith))))))))))))
 
-pub sheet-length : SheetLength
+pub sheet-as-long : SheetAsLong
 unfolding sheetRecord numbersBytes u32Bytes
-sheet-length r k = sym (has-length r k)
+sheet-as-long r k = sym (sheet-has-length r k)
 
 pub sheet-most : SheetMost
-sheet-most r k = omega (arith, has-length r k)
+sheet-most r k = omega (arith, sheet-has-length r k)
 
 pub sheet-decoded : SheetDecoded
 unfolding sheetOf

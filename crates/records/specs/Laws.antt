@@ -40,8 +40,8 @@ SheetBack = (s : Sheet) → IsSheet s → sheetOf (sheetRecord s) ≡ s
 abbrev pub SheetForth : Type 0
 SheetForth = (r : List ℕ) → IsRecord records.Sheet r → Bytes r → sheetRecord (sheetOf r) ≡ r
 
-abbrev pub SheetLength : Type 0
-SheetLength = (r : List ℕ) → IsRecord records.Sheet r → length (sheetRecord (sheetOf r)) ≡ length r
+abbrev pub SheetAsLong : Type 0
+SheetAsLong = (r : List ℕ) → IsRecord records.Sheet r → length (sheetRecord (sheetOf r)) ≡ length r
 
 -- no sheet's record is longer than this (SheetRecords)
 abbrev pub longestSheetRecord : ℕ

@@ -41,20 +41,6 @@ pub record IsRecord (which : Record) (r : List ℕ) : Type 0 where
   pub layout : layoutOf (getD r 0 0) ≡ Known which body
   pub whole : length r ≡ suc body
 
--- zeros, where there is no sheet
-unfoldable pub blankSheet : Sheet
-blankSheet = record {
-  «first_parallel» = pos 0;
-  «second_parallel» = pos 0;
-  «origin_latitude» = pos 0;
-  «central_meridian» = pos 0;
-  «south_edge» = pos 0;
-  «north_edge» = pos 0;
-  «half_width» = 0;
-  «cone_constant» = 0;
-  «radius_constant» = pos 0;
-}
-
 -- sheet: nine 32-bit numbers in the sheet's order; w and n unsigned, the rest signed
 unfoldable pub sheetOf : List ℕ → Sheet
 sheetOf r = record {

@@ -6,7 +6,7 @@ ghost use mathlib.Core.Path.{_≡_};
 ghost use Prim.Native.Nat.{_+_, _*_, _≤_, _<_};
 ghost use lib.ListN.{length, take, drop};
 ghost use Rattle.records.specs.Numbers.{u32At, i32At, signed, unsigned, u32Bytes, numbersBytes, put};
-ghost use Rattle.records.specs.Records.{layoutReplyOf, layoutReply, IsRecord, blankSheet, sheetOf, sheetRecord, placeOf, placeRecord, endOf, endRecord};
+ghost use Rattle.records.specs.Records.{layoutReplyOf, layoutReply, IsRecord, sheetOf, sheetRecord, placeOf, placeRecord, endOf, endRecord};
 ghost use Rattle.records.specs.declared.Record.the-variants as records;
 use place::NAME_LENGTH;
 use place::Place;
@@ -126,23 +126,6 @@ fn put_numbers(out: &mut [u8], numbers: &[u32])
     }
 }
 
-// Zeros: what an answer holds where there is no sheet.
-pub fn blank_sheet() -> Sheet
-    ensures { λ r. ⌜ r ≡ blankSheet ⌝ }
-{
-    Sheet {
-        first_parallel: 0,
-        second_parallel: 0,
-        origin_latitude: 0,
-        central_meridian: 0,
-        south_edge: 0,
-        north_edge: 0,
-        half_width: 0,
-        cone_constant: 0,
-        radius_constant: 0,
-    }
-}
-
 // The sheet of a sheet's record; not offered to callers.
 pub fn decode_sheet_unchecked(bytes: &[u8]) -> Sheet
     requires { ⌜ IsRecord records.Sheet (now bytes) ⌝ }
@@ -194,11 +177,7 @@ fn name_at(bytes: &[u8], at: usize) -> [u8; 16]
     ensures { λ r. ⌜ r ≡ take 16 (drop at (now (bytes .entry))) ⌝ }
 {
     let mut name = [0u8; 16];
-    let mut i = 0;
-    while i < NAME_LENGTH {
-        name[i] = bytes[at + i];
-        i += 1;
-    }
+    bytes::copy(&bytes[at..at + NAME_LENGTH], &mut name);
     name
 }
 
@@ -207,11 +186,7 @@ fn put_name(out: &mut [u8], at: usize, name: [u8; 16])
     requires { ⌜ at + 16 ≤ length (now out) ⌝ }
     ensures { λ _. ⌜ now (out .exit) ≡ put (now (out .entry)) at name ⌝ }
 {
-    let mut i = 0;
-    while i < NAME_LENGTH {
-        out[at + i] = name[i];
-        i += 1;
-    }
+    bytes::copy(&name, &mut out[at..at + NAME_LENGTH]);
 }
 
 // The place of a place's record; not offered to callers.

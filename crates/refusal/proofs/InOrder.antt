@@ -81,9 +81,9 @@ refused-bad A k [] vs good bad r e = absurd (accepted-or-refused vs k r (sym e))
 refused-bad A k (rule ∷ rules) vs good bad r e = bad-past (rule .holds) k r (rule .refusal) _ _ bad (refused-bad A k rules vs good bad r) e
 
 pub by-outcomes : ByOutcomes
-by-outcomes A P [] first second bad worse f g = f refl
-by-outcomes A P (rule ∷ rules) first second bad worse f g =
-    by-rule P (rule .holds) _ _ _ _ (λ h. by-outcomes A P rules first second bad worse (λ hs. f (rw h hs)) g) (g (rule .refusal))
+by-outcomes A P [] first second bad other-bad f g = f refl
+by-outcomes A P (rule ∷ rules) first second bad other-bad f g =
+    by-rule P (rule .holds) _ _ _ _ (λ h. by-outcomes A P rules first second bad other-bad (λ hs. f (rw h hs)) g) (g (rule .refusal))
 
 pub by-outcome : ByOutcome
 by-outcome A P rules good bad = by-outcomes A (λ a _. P a) rules good good bad bad

@@ -57,5 +57,5 @@ ByOutcome = (A : Type 0) (P : A → Type 0) (rules : List Rule) (good : A) (bad 
     (allHold rules ≡ true → P good) → ((r : Refusal) → P (bad r)) → P (outcome rules good bad)
 
 abbrev pub ByOutcomes : Type 1
-ByOutcomes = (A : Type 0) (P : A → A → Type 0) (rules : List Rule) (first second : A) (bad worse : Refusal → A) →
-    (allHold rules ≡ true → P first second) → ((r : Refusal) → P (bad r) (worse r)) → P (outcome rules first bad) (outcome rules second worse)
+ByOutcomes = (A : Type 0) (P : A → A → Type 0) (rules : List Rule) (first second : A) (bad other-bad : Refusal → A) →
+    (allHold rules ≡ true → P first second) → ((r : Refusal) → P (bad r) (other-bad r)) → P (outcome rules first bad) (outcome rules second other-bad)

@@ -42,6 +42,20 @@ n s = pos (s .«cone_constant»)
 abbrev pub g : Sheet → ℤ
 g s = s .«radius_constant»
 
+-- zeros, where there is no sheet
+unfoldable pub blankSheet : Sheet
+blankSheet = record {
+  «first_parallel» = pos 0;
+  «second_parallel» = pos 0;
+  «origin_latitude» = pos 0;
+  «central_meridian» = pos 0;
+  «south_edge» = pos 0;
+  «north_edge» = pos 0;
+  «half_width» = 0;
+  «cone_constant» = 0;
+  «radius_constant» = pos 0;
+}
+
 -- It is within its limits (else refusal 4) when
 -- 5,000,000 ≤ f1 ≤ f2 ≤ 80,000,000, and fs ≤ f1, f2 ≤ fn;
 -- 0 ≤ fs ≤ f0 ≤ fn ≤ 90,000,000;

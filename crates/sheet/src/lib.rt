@@ -8,7 +8,7 @@ ghost use Prim.Native.Nat.{_≤_};
 ghost use lib.IntN.{pos};
 ghost use Rattle.arith.specs.Bounds.{Size};
 ghost use Rattle.trig.specs.Trig.{angleOf, cosineOf};
-ghost use Rattle.sheet.specs.Sheets.{withinLimits, coneAngleOf, coneAgrees, radiusAgrees, constantsAgree, checkReply, replyOf, shifted, offsetOf, onSheet};
+ghost use Rattle.sheet.specs.Sheets.{blankSheet, withinLimits, coneAngleOf, coneAgrees, radiusAgrees, constantsAgree, checkReply, replyOf, shifted, offsetOf, onSheet};
 use refusal::Refusal;
 use trig::ONE;
 
@@ -33,6 +33,23 @@ pub struct Sheet {
     pub cone_constant: u32,
     // The radius of the Equator's arc on the map: g.
     pub radius_constant: i32,
+}
+
+// Zeros: what an answer holds where there is no sheet.
+pub fn blank() -> Sheet
+    ensures { λ r. ⌜ r ≡ blankSheet ⌝ }
+{
+    Sheet {
+        first_parallel: 0,
+        second_parallel: 0,
+        origin_latitude: 0,
+        central_meridian: 0,
+        south_edge: 0,
+        north_edge: 0,
+        half_width: 0,
+        cone_constant: 0,
+        radius_constant: 0,
+    }
 }
 
 // What check answers.

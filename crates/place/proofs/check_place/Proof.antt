@@ -1,4 +1,4 @@
--- `atlas_file::check_place` meets its contract. Assumes nothing.
+-- `place::check_place` meets its contract. Assumes nothing.
 use borrow.Author.Needs.{needs}
 use Rattle.arith.proofs.Fits.{fits, param}
 use Rattle.place.proofs.Fields.{typed}

@@ -1,4 +1,4 @@
--- `records::is_name` meets its contract. Each turn tests one byte more, from the last on. Assumes nothing.
+-- `place::is_name` meets its contract. Each turn tests one byte more, from the last on. Assumes nothing.
 use mathlib.Core.Path.{_≡_}
 use Prim.Native.Nat.{suc, _-_, _≤_}
 use borrow.Author.Needs.{needs}

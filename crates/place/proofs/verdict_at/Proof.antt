@@ -1,4 +1,4 @@
--- `atlas_file::verdict_at` meets its contract. Assumes nothing.
+-- `place::verdict_at` meets its contract. Assumes nothing.
 use mathlib.Core.Path.{_≡_, sym, _∙_}
 use mathlib.Core.Bool.{_&&_}
 use mathlib.Core.List.{[], _∷_}

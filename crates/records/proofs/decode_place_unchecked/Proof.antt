@@ -2,8 +2,7 @@
 use borrow.Author.Needs.{needs}
 use native.Mathlib.Omega.{arith}
 use Rattle.records.specs.Records.{placeOf}
-use Rattle.records.proofs.PlaceRecords.{place-length}
-use Rattle.records.proofs.PlaceRecords.{place-is}
+use Rattle.records.proofs.PlaceRecords.{place-length, place-is}
 use Rattle.records.proofs.decode_place_unchecked.Statement.{statement}
 use Rattle.records.proofs.decode_place_unchecked.Tie as tie
 

@@ -5,12 +5,12 @@ use Rattle.atlas_file.specs.Reading.{startOf}
 use Rattle.atlas_file.proofs.reading.start.Statement.{statement}
 use Rattle.atlas_file.proofs.reading.start.Tie as tie
 
-blank-sheet-requires : tie.Need-blank-sheet-requires
-blank-sheet-requires c κs = search needs
+blank-requires : tie.Need-blank-requires
+blank-requires c κs = search needs
 
 returns : tie.Need-returns
 unfolding startOf
-returns c = rw (c .blank-sheet .ensures) refl
+returns c = rw (c .blank .ensures) refl
 
 pub start-spec : {M : Type 1} → statement M
-start-spec = tie.close (tie.spec blank-sheet-requires returns)
+start-spec = tie.close (tie.spec blank-requires returns)
