@@ -165,6 +165,7 @@ fn content_step(
     }
 }
 
+// A sheet: 4, 5.
 fn sheet_step(bytes: &[u8], end: usize, state: State) -> StepAnswer
     requires { ⌜ IsRecord records.Sheet (now bytes) ⌝ }
     requires { ⌜ end ≡ state .at + length (now bytes) ⌝ }
@@ -195,6 +196,7 @@ fn sheet_step(bytes: &[u8], end: usize, state: State) -> StepAnswer
     }
 }
 
+// A place: 6, 7, 8, 14.
 fn place_step(bytes: &[u8], end: usize, state: State, checked: bool) -> StepAnswer
     requires { ⌜ (checked ≡ true → passesChecks (state .sheet) ≡ true) ⌝ }
     requires { ⌜ IsRecord records.Place (now bytes) ⌝ }
@@ -240,6 +242,7 @@ fn verdict_for(state: State, checked: bool, place: Place) -> Verdict
     }
 }
 
+// The end: 9, then 3.
 fn end_step(bytes: &[u8], end: usize, more: bool, state: State) -> StepAnswer
     requires { ⌜ IsRecord records.End (now bytes) ⌝ }
     requires { ⌜ end ≡ state .at + length (now bytes) ⌝ }
@@ -264,6 +267,7 @@ fn end_step(bytes: &[u8], end: usize, more: bool, state: State) -> StepAnswer
     }
 }
 
+// A refusal: no place, and the state as it was.
 fn refused(state: State, r: Refusal, offset: usize) -> StepAnswer
     ensures { λ a. ⌜ a ≡ refusedStep state r offset ⌝ }
 {

@@ -4,7 +4,7 @@ use native.Mathlib.Omega.{arith}
 use Rattle.trig.specs.Trig.{angleOf, squareOf, seriesOf, sineOf, cosineOf}
 use Rattle.sheet.specs.Sheets.{withinLimits, coneAngleOf, coneAgrees, radiusAgrees, constantsAgree, sheetRules, shifted, offsetOf, onSheet}
 use Rattle.conic.specs.Conic.{positionRules, tOf, xAt, yAt, xOf, yOf}
-use Rattle.records.specs.Numbers.{signed, unsigned, i32At, u32Bytes, numbersBytes}
+use Rattle.little_endian.specs.Numbers.{signed, unsigned, i32At, u32Bytes, numbersBytes}
 use Rattle.place.specs.Names.{isName}
 use Rattle.records.specs.Records.{layoutOf, sheetOf, sheetRecord, placeOf, placeRecord, endOf, endRecord}
 use Rattle.place.specs.Places.{placeRulesAt, placeRules}

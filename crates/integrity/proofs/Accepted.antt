@@ -25,7 +25,7 @@ use Rattle.place.specs.Places.{placeRules}
 use Rattle.atlas_file.specs.Steps.{pastSheet, pastPlace, mostPlaces, refusedStep}
 use Rattle.atlas_file.specs.Reading.{Reading, acceptedReading, startOf, readFrom, readOf, readReply, placesRead}
 use Rattle.atlas_file.proofs.Views.{byte-at, Stepped, refused, sheet, place, end, view}
-use Rattle.records.specs.Numbers.{Bytes}
+use Rattle.little_endian.specs.Numbers.{Bytes}
 use Rattle.atlas_file.specs.Writing.{placeRecords, fileOf, placesRules, listRules, writeRules}
 use Rattle.integrity.specs.Integrity.{FileLength, CountIsPlaces, ReadIsGood, LongestFile, WritesBack, WriterAccepts}
 use Rattle.refusal.proofs.InOrder.{both-hold, hold-together, all-hold-good}

@@ -11,7 +11,7 @@ use Rattle.refusal.specs.Rules.{allHold}
 use Rattle.sheet.specs.declared.Sheet.{Sheet}
 use Rattle.place.specs.Laws.{IsOwn}
 use Rattle.place.specs.declared.Place.{Place}
-use Rattle.records.specs.Numbers.{Bytes}
+use Rattle.little_endian.specs.Numbers.{Bytes}
 use Rattle.records.specs.Records.{IsSheet, IsPlace, sheetRecord}
 use Rattle.records.specs.Laws.{longestSheetRecord}
 use Rattle.atlas_file.specs.Steps.{mostPlaces}

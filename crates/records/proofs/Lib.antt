@@ -1,7 +1,4 @@
--- The laws of numbers and records, and what the functions' proofs share.
-pub mod Bits
-pub mod NumberLaws
-pub mod Puts
+-- The laws of records, and what the functions' proofs share.
 pub mod KindBytes
 pub mod SheetRecords
 pub mod PlaceRecords

@@ -7,10 +7,10 @@ use lib.ListN.{getD, drop, length-drop, length-take, drop-of-length-le}
 use lib.Seq.{take-all}
 use Rattle.place.specs.declared.Place.{Place}
 use Rattle.records.specs.declared.Record.the-variants as records
-use Rattle.records.specs.Numbers.{i32At, u32Bytes, numbersBytes}
+use Rattle.little_endian.specs.Numbers.{i32At, u32Bytes, numbersBytes}
 use Rattle.records.specs.Records.{layoutOf, placeOf, placeRecord, endOf, endRecord}
 use Rattle.records.specs.Laws.{PlaceKind, PlaceBack, PlaceForth, PlaceLength, PlaceDecoded, EndKind, EndBack, EndForth, EndLength}
-use Rattle.records.proofs.NumberLaws.{u32-back, i32-back, u32-below, i32-below, u32-then, i32-then}
+use Rattle.little_endian.proofs.NumberLaws.{u32-back, i32-back, u32-below, i32-below, u32-then, i32-then}
 use Rattle.records.proofs.KindBytes.{row, whole-record}
 
 -- two of them are the same where their fields are

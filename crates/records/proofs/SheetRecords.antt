@@ -6,10 +6,10 @@ use Prim.Native.Nat.{ℕ, suc}
 use lib.ListN.{getD, length, drop-of-length-le}
 use Rattle.sheet.specs.declared.Sheet.{Sheet}
 use Rattle.records.specs.declared.Record.the-variants as records
-use Rattle.records.specs.Numbers.{i32At, u32Bytes, numbersBytes}
+use Rattle.little_endian.specs.Numbers.{i32At, u32Bytes, numbersBytes}
 use Rattle.records.specs.Records.{layoutOf, IsRecord, sheetOf, sheetRecord}
 use Rattle.records.specs.Laws.{SheetKind, SheetBack, SheetForth, SheetAsLong, SheetMost, SheetDecoded}
-use Rattle.records.proofs.NumberLaws.{u32-back, i32-back, u32-below, i32-below, u32-then, i32-then}
+use Rattle.little_endian.proofs.NumberLaws.{u32-back, i32-back, u32-below, i32-below, u32-then, i32-then}
 use Rattle.records.proofs.KindBytes.{row, whole-record}
 
 -- two of them are the same where their fields are

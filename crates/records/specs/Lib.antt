@@ -1,4 +1,3 @@
--- The numbers and the records of an atlas file, and their laws.
-pub mod Numbers
+-- The records of an atlas file, and their laws.
 pub mod Records
 pub mod Laws

@@ -1,12 +1,11 @@
 -- Document 01, 'The atlas file': one byte of kind, then a body whose length the kind fixes. What a kind says, and the bytes of the three records, kind byte and body.
-use Prim.Native.Nat.{ℕ, suc, _^_, _<_}
+use Prim.Native.Nat.{ℕ, suc}
 use mathlib.Core.Bool.{cond}
 use mathlib.Core.Path.{_≡_}
 use mathlib.Core.List.{List, [], _∷_, _++_}
 use lib.ListN.{getD, length, take, drop}
 use lib.Dec.{eqb}
-use lib.IntN.{ℤ, pos}
-use lib.Signed.{mag}
+use lib.IntN.{pos}
 use Rattle.refusal.specs.declared.Refusal.the-variants.{Kind}
 use Rattle.refusal.specs.Numbers.{Reply, accepted, refused}
 use Rattle.sheet.specs.declared.Sheet.{Sheet}
@@ -15,7 +14,7 @@ use Rattle.records.specs.declared.Record.the-variants as records
 use Rattle.records.specs.declared.Layout.{Layout}
 use Rattle.records.specs.declared.Layout.the-variants.{Known, Refused}
 use Rattle.place.specs.declared.Place.{Place}
-use Rattle.records.specs.Numbers.{u32At, i32At, unsigned, numbersBytes}
+use Rattle.little_endian.specs.Numbers.{u32At, i32At, unsigned, numbersBytes, IsI32, IsU32}
 
 -- 1 sheet 36, 2 place 36, 3 end 4; any other kind is unknown: 2
 unfoldable pub layoutOf : (byte : ℕ) → Layout
@@ -93,13 +92,7 @@ endOf r = u32At r 1
 unfoldable pub endRecord : ℕ → List ℕ
 endRecord count = 3 ∷ numbersBytes (count ∷ [])
 
--- what the types of the fields hold: signed 32-bit numbers (`mag` of k is k, of -(k + 1) it is k: so from -2^31 up to 2^31 - 1), unsigned ones, and 16 bytes
-abbrev pub IsI32 : ℤ → Type 0
-IsI32 z = mag z < 2 ^ 31
-
-abbrev pub IsU32 : ℕ → Type 0
-IsU32 u = u < 2 ^ 32
-
+-- what the types of the fields hold
 pub record IsSheet (s : Sheet) : Type 0 where
   pub f1 : IsI32 (s .«first_parallel»)
   pub f2 : IsI32 (s .«second_parallel»)

@@ -1,11 +1,11 @@
-// The records of an atlas file (document 01, 'The atlas file'): their kinds, little-endian numbers, and the bytes of a sheet, a
-// place and the end. A record is its kind byte and its body.
+// The records of an atlas file (document 01, 'The atlas file'): their kinds, and the bytes of a sheet, a place and
+// the end. A record is its kind byte and its body.
 //
 // A function whose name ends in _unchecked is not offered to callers, as in trig.
 ghost use mathlib.Core.Path.{_≡_};
 ghost use Prim.Native.Nat.{_+_, _*_, _≤_, _<_};
 ghost use lib.ListN.{length, take, drop};
-ghost use Rattle.records.specs.Numbers.{u32At, i32At, signed, unsigned, u32Bytes, numbersBytes, put};
+ghost use Rattle.little_endian.specs.Numbers.{put};
 ghost use Rattle.records.specs.Records.{layoutReplyOf, layoutReply, IsRecord, sheetOf, sheetRecord, placeOf, placeRecord, endOf, endRecord};
 ghost use Rattle.records.specs.declared.Record.the-variants as records;
 use place::NAME_LENGTH;
@@ -60,87 +60,21 @@ pub fn layout_of(byte: u8) -> Layout
     }
 }
 
-fn wide(x: u8) -> u32
-    ensures { λ r. ⌜ (r ≡ x) × (r < 256) ⌝ }
-{
-    x as u32
-}
-
-// The number in the four bytes from `at`, the lowest first.
-fn u32_at(bytes: &[u8], at: usize) -> u32
-    requires { ⌜ at + 4 ≤ length (now bytes) ⌝ }
-    ensures { λ r. ⌜ r ≡ u32At (now (bytes .entry)) at ⌝ }
-{
-    wide(bytes[at])
-        + 256 * wide(bytes[at + 1])
-        + 65536 * wide(bytes[at + 2])
-        + 16777216 * wide(bytes[at + 3])
-}
-
-// The number whose two's complement is u. Both arms keep the bits: `!` turns each of them over, twice.
-fn to_signed(u: u32) -> i32
-    ensures { λ r. ⌜ r ≡ signed u ⌝ }
-{
-    if u < 0x8000_0000 {
-        u as i32
-    } else {
-        !(!u as i32)
-    }
-}
-
-// The two's complement of z.
-fn to_unsigned(z: i32) -> u32
-    ensures { λ r. ⌜ r ≡ unsigned z ⌝ }
-{
-    if z < 0 { !(!z as u32) } else { z as u32 }
-}
-
-fn i32_at(bytes: &[u8], at: usize) -> i32
-    requires { ⌜ at + 4 ≤ length (now bytes) ⌝ }
-    ensures { λ r. ⌜ r ≡ i32At (now (bytes .entry)) at ⌝ }
-{
-    to_signed(u32_at(bytes, at))
-}
-
-// Writes u into the four bytes from `at`, the lowest first.
-fn put_u32(out: &mut [u8], at: usize, u: u32)
-    requires { ⌜ at + 4 ≤ length (now out) ⌝ }
-    ensures { λ _. ⌜ now (out .exit) ≡ put (now (out .entry)) at (u32Bytes u) ⌝ }
-{
-    out[at] = (u % 256) as u8;
-    out[at + 1] = (u / 256 % 256) as u8;
-    out[at + 2] = (u / 65536 % 256) as u8;
-    out[at + 3] = (u / 16777216 % 256) as u8;
-}
-
-// Writes numbers one after the other behind the kind byte.
-fn put_numbers(out: &mut [u8], numbers: &[u32])
-    requires { ⌜ 1 + 4 * length (now numbers) ≤ length (now out) ⌝ }
-    ensures { λ _. ⌜ now (out .exit) ≡ put (now (out .entry)) 1 (numbersBytes (now (numbers .entry))) ⌝ }
-{
-    let mut i = 0;
-    while i < numbers.len() {
-        let u = numbers[i];
-        put_u32(out, 1 + 4 * i, u);
-        i += 1;
-    }
-}
-
 // The sheet of a sheet's record; not offered to callers.
 pub fn decode_sheet_unchecked(bytes: &[u8]) -> Sheet
     requires { ⌜ IsRecord records.Sheet (now bytes) ⌝ }
     ensures { λ r. ⌜ r ≡ sheetOf (now (bytes .entry)) ⌝ }
 {
     Sheet {
-        first_parallel: i32_at(bytes, 1),
-        second_parallel: i32_at(bytes, 5),
-        origin_latitude: i32_at(bytes, 9),
-        central_meridian: i32_at(bytes, 13),
-        south_edge: i32_at(bytes, 17),
-        north_edge: i32_at(bytes, 21),
-        half_width: u32_at(bytes, 25),
-        cone_constant: u32_at(bytes, 29),
-        radius_constant: i32_at(bytes, 33),
+        first_parallel: little_endian::i32_at_unchecked(bytes, 1),
+        second_parallel: little_endian::i32_at_unchecked(bytes, 5),
+        origin_latitude: little_endian::i32_at_unchecked(bytes, 9),
+        central_meridian: little_endian::i32_at_unchecked(bytes, 13),
+        south_edge: little_endian::i32_at_unchecked(bytes, 17),
+        north_edge: little_endian::i32_at_unchecked(bytes, 21),
+        half_width: little_endian::u32_at_unchecked(bytes, 25),
+        cone_constant: little_endian::u32_at_unchecked(bytes, 29),
+        radius_constant: little_endian::i32_at_unchecked(bytes, 33),
     }
 }
 
@@ -157,18 +91,18 @@ pub fn write_sheet_unchecked(part: &mut [u8], sheet: Sheet)
     ensures { λ _. ⌜ now (part .exit) ≡ sheetRecord sheet ⌝ }
 {
     let numbers = [
-        to_unsigned(sheet.first_parallel),
-        to_unsigned(sheet.second_parallel),
-        to_unsigned(sheet.origin_latitude),
-        to_unsigned(sheet.central_meridian),
-        to_unsigned(sheet.south_edge),
-        to_unsigned(sheet.north_edge),
+        little_endian::to_unsigned(sheet.first_parallel),
+        little_endian::to_unsigned(sheet.second_parallel),
+        little_endian::to_unsigned(sheet.origin_latitude),
+        little_endian::to_unsigned(sheet.central_meridian),
+        little_endian::to_unsigned(sheet.south_edge),
+        little_endian::to_unsigned(sheet.north_edge),
         sheet.half_width,
         sheet.cone_constant,
-        to_unsigned(sheet.radius_constant),
+        little_endian::to_unsigned(sheet.radius_constant),
     ];
     part[0] = SHEET;
-    put_numbers(part, &numbers);
+    little_endian::put_numbers_unchecked(part, &numbers);
 }
 
 // The name in the bytes from `at`.
@@ -196,11 +130,11 @@ pub fn decode_place_unchecked(bytes: &[u8]) -> Place
 {
     let name = name_at(bytes, 21);
     Place {
-        id: u32_at(bytes, 1),
-        latitude: i32_at(bytes, 5),
-        longitude: i32_at(bytes, 9),
-        x: i32_at(bytes, 13),
-        y: i32_at(bytes, 17),
+        id: little_endian::u32_at_unchecked(bytes, 1),
+        latitude: little_endian::i32_at_unchecked(bytes, 5),
+        longitude: little_endian::i32_at_unchecked(bytes, 9),
+        x: little_endian::i32_at_unchecked(bytes, 13),
+        y: little_endian::i32_at_unchecked(bytes, 17),
         name: name,
     }
 }
@@ -212,13 +146,13 @@ pub fn write_place_unchecked(part: &mut [u8], place: Place)
 {
     let numbers = [
         place.id,
-        to_unsigned(place.latitude),
-        to_unsigned(place.longitude),
-        to_unsigned(place.x),
-        to_unsigned(place.y),
+        little_endian::to_unsigned(place.latitude),
+        little_endian::to_unsigned(place.longitude),
+        little_endian::to_unsigned(place.x),
+        little_endian::to_unsigned(place.y),
     ];
     part[0] = PLACE;
-    put_numbers(part, &numbers);
+    little_endian::put_numbers_unchecked(part, &numbers);
     let name = place.name;
     put_name(part, 21, name);
 }
@@ -228,7 +162,7 @@ pub fn decode_end_unchecked(bytes: &[u8]) -> u32
     requires { ⌜ IsRecord records.End (now bytes) ⌝ }
     ensures { λ r. ⌜ r ≡ endOf (now (bytes .entry)) ⌝ }
 {
-    u32_at(bytes, 1)
+    little_endian::u32_at_unchecked(bytes, 1)
 }
 
 // Fills a part of a buffer with the end record; not offered to callers.
@@ -238,5 +172,5 @@ pub fn write_end_unchecked(part: &mut [u8], count: u32)
 {
     let numbers = [count];
     part[0] = END;
-    put_numbers(part, &numbers);
+    little_endian::put_numbers_unchecked(part, &numbers);
 }

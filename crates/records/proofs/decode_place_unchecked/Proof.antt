@@ -9,20 +9,20 @@ use Rattle.records.proofs.decode_place_unchecked.Tie as tie
 name-at-requires : tie.Need-name-at-requires
 name-at-requires c κs = omega (arith, place-length)
 
-u32-at-requires : tie.Need-u32-at-requires
-u32-at-requires c κs = omega (arith, place-length)
+u32-at-unchecked-requires : tie.Need-u32-at-unchecked-requires
+u32-at-unchecked-requires c κs = omega (arith, place-length)
 
-i32-at-requires : tie.Need-i32-at-requires
-i32-at-requires c κs = omega (arith, place-length)
+i32-at-unchecked-requires : tie.Need-i32-at-unchecked-requires
+i32-at-unchecked-requires c κs = omega (arith, place-length)
 
-i32-at-requires-2 : tie.Need-i32-at-requires-2
-i32-at-requires-2 c κs = omega (arith, place-length)
+i32-at-unchecked-requires-2 : tie.Need-i32-at-unchecked-requires-2
+i32-at-unchecked-requires-2 c κs = omega (arith, place-length)
 
-i32-at-requires-3 : tie.Need-i32-at-requires-3
-i32-at-requires-3 c κs = omega (arith, place-length)
+i32-at-unchecked-requires-3 : tie.Need-i32-at-unchecked-requires-3
+i32-at-unchecked-requires-3 c κs = omega (arith, place-length)
 
-i32-at-requires-4 : tie.Need-i32-at-requires-4
-i32-at-requires-4 c κs = omega (arith, place-length)
+i32-at-unchecked-requires-4 : tie.Need-i32-at-unchecked-requires-4
+i32-at-unchecked-requires-4 c κs = omega (arith, place-length)
 
 returns : tie.Need-returns
 unfolding placeOf
@@ -33,9 +33,9 @@ decode-place-unchecked-spec =
     tie.close
     (tie.spec
     name-at-requires
-    u32-at-requires
-    i32-at-requires
-    i32-at-requires-2
-    i32-at-requires-3
-    i32-at-requires-4
+    u32-at-unchecked-requires
+    i32-at-unchecked-requires
+    i32-at-unchecked-requires-2
+    i32-at-unchecked-requires-3
+    i32-at-unchecked-requires-4
     returns)

@@ -5,7 +5,7 @@ use borrow.Author.Needs.{needs}
 use native.Mathlib.Omega.{arith}
 use denote.Ref.{now}
 use lib.ListN.{length, take, drop, replicate, length-take, length-drop}
-use Rattle.records.proofs.Puts.{copied}
+use Rattle.little_endian.proofs.Puts.{copied}
 use Rattle.records.proofs.name_at.Statement.{statement}
 use Rattle.records.proofs.name_at.Tie as tie
 

@@ -5,7 +5,7 @@ use borrow.Author.Needs.{needs}
 use native.Mathlib.Omega.{arith}
 use denote.Ref.{now}
 use lib.ListN.{length, length-take, length-drop}
-use Rattle.records.proofs.Puts.{copied, put-part}
+use Rattle.little_endian.proofs.Puts.{copied, put-part}
 use Rattle.records.proofs.put_name.Statement.{statement}
 use Rattle.records.proofs.put_name.Tie as tie
 

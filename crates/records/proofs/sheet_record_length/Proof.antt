@@ -1,6 +1,6 @@
 -- `records::sheet_record_length` meets its contract. Assumes nothing.
 use borrow.Author.Needs.{needs}
-use Rattle.records.specs.Numbers.{u32Bytes, numbersBytes}
+use Rattle.little_endian.specs.Numbers.{u32Bytes, numbersBytes}
 use Rattle.records.specs.Records.{sheetRecord}
 use Rattle.records.proofs.sheet_record_length.Statement.{statement}
 use Rattle.records.proofs.sheet_record_length.Tie as tie

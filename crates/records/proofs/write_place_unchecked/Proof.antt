@@ -5,11 +5,11 @@ use borrow.Author.Needs.{needs}
 use native.Mathlib.Omega.{arith}
 use denote.Ref.{now}
 use lib.ListN.{length-set}
-use Rattle.records.specs.Numbers.{u32Bytes, numbersBytes}
+use Rattle.little_endian.specs.Numbers.{u32Bytes, numbersBytes}
 use Rattle.records.specs.Records.{placeRecord}
 use Rattle.place.proofs.Fields.{typed}
-use Rattle.records.proofs.Bits.{unsigned-of}
-use Rattle.records.proofs.Puts.{written-before}
+use Rattle.little_endian.proofs.Bits.{unsigned-of}
+use Rattle.little_endian.proofs.Puts.{written-before}
 use Rattle.records.proofs.write_place_unchecked.Statement.{statement}
 use Rattle.records.proofs.write_place_unchecked.Tie as tie
 
@@ -28,11 +28,11 @@ to-unsigned-requires-4 c κs = search needs
 slice-write-part : tie.Need-slice-write-part
 slice-write-part c = search needs
 
-slice-aggregate-put-numbers : tie.Need-slice-aggregate-put-numbers
-slice-aggregate-put-numbers c = search needs
+slice-aggregate-put-numbers-unchecked : tie.Need-slice-aggregate-put-numbers-unchecked
+slice-aggregate-put-numbers-unchecked c = search needs
 
-put-numbers-requires : tie.Need-put-numbers-requires
-put-numbers-requires c κs = simp length-set (omega arith)
+put-numbers-unchecked-requires : tie.Need-put-numbers-unchecked-requires
+put-numbers-unchecked-requires c κs = simp length-set (omega arith)
 
 put-name-requires : tie.Need-put-name-requires
 put-name-requires c κs = omega (arith, simp length-set at (c .before .before .before .part .given))
@@ -51,7 +51,7 @@ returns c =
     let s = c1 .before .before .before in
     let p = s .args .place in
     let t = typed {p = p} (c1 .before .struct-told .given) in
-    written-before (now (s .args .part)) _ _ _ 2 (m .put-numbers .ensures)
+    written-before (now (s .args .part)) _ _ _ 2 (m .put-numbers-unchecked .ensures)
     (λ i.
     p .«id»
     ∷ unsigned-of (p .«latitude») (c1 .to-unsigned .ensures) (t .latitude .sfits) i
@@ -70,8 +70,8 @@ write-place-unchecked-spec =
     to-unsigned-requires-3
     to-unsigned-requires-4
     slice-write-part
-    slice-aggregate-put-numbers
-    put-numbers-requires
+    slice-aggregate-put-numbers-unchecked
+    put-numbers-unchecked-requires
     put-name-requires
     same-length
     returns)

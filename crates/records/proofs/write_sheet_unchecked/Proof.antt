@@ -5,10 +5,10 @@ use native.Mathlib.Omega.{arith}
 use denote.Ref.{now}
 use lib.ListN.{length-set}
 use Rattle.sheet.proofs.Fields.{typed}
-use Rattle.records.specs.Numbers.{u32Bytes, numbersBytes}
+use Rattle.little_endian.specs.Numbers.{u32Bytes, numbersBytes}
 use Rattle.records.specs.Records.{sheetRecord}
-use Rattle.records.proofs.Bits.{unsigned-of}
-use Rattle.records.proofs.Puts.{written}
+use Rattle.little_endian.proofs.Bits.{unsigned-of}
+use Rattle.little_endian.proofs.Puts.{written}
 use Rattle.records.proofs.write_sheet_unchecked.Statement.{statement}
 use Rattle.records.proofs.write_sheet_unchecked.Tie as tie
 
@@ -37,12 +37,12 @@ slice-write-part : tie.Need-slice-write-part
 unfolding sheetRecord numbersBytes u32Bytes
 slice-write-part c = search needs
 
-slice-aggregate-put-numbers : tie.Need-slice-aggregate-put-numbers
-slice-aggregate-put-numbers c = search needs
+slice-aggregate-put-numbers-unchecked : tie.Need-slice-aggregate-put-numbers-unchecked
+slice-aggregate-put-numbers-unchecked c = search needs
 
-put-numbers-requires : tie.Need-put-numbers-requires
+put-numbers-unchecked-requires : tie.Need-put-numbers-unchecked-requires
 unfolding sheetRecord numbersBytes u32Bytes
-put-numbers-requires c κs = simp length-set (omega arith)
+put-numbers-unchecked-requires c κs = simp length-set (omega arith)
 
 same-length : tie.Need-same-length
 same-length c = simp length-set at (c .before .part .given)
@@ -60,7 +60,7 @@ returns c =
     let s = c1 .before .before .before in
     let h = s .args .sheet in
     let t = typed {s = h} (c1 .before .struct-told .given) in
-    written (now (s .args .part)) _ _ _ 1 (c .before .before .put-numbers .ensures)
+    written (now (s .args .part)) _ _ _ 1 (c .before .before .put-numbers-unchecked .ensures)
     (λ i.
     unsigned-of (h .«first_parallel») (c1 .to-unsigned .ensures) (t .f1 .sfits) i
     ∷ unsigned-of (h .«second_parallel») (c2 .to-unsigned2 .ensures) (t .f2 .sfits) i
@@ -86,7 +86,7 @@ write-sheet-unchecked-spec =
     to-unsigned-requires-6
     to-unsigned-requires-7
     slice-write-part
-    slice-aggregate-put-numbers
-    put-numbers-requires
+    slice-aggregate-put-numbers-unchecked
+    put-numbers-unchecked-requires
     same-length
     returns)

@@ -7,7 +7,7 @@ use native.Mathlib.Numerals.{add-one}
 use native.Mathlib.Omega.{arith}
 use lib.ListN.{getD, length, take, drop, set, length-append, length-set, take-append-drop, drop-of-length-le}
 use lib.Seq.{take-length, sets-eq, length-take-le, take-at, drop-at, drop-drop, drop-cons}
-use Rattle.records.specs.Numbers.{u32Bytes, numbersBytes, put}
+use Rattle.little_endian.specs.Numbers.{u32Bytes, numbersBytes, put}
 
 pub put-none : (l : List ℕ) (at : ℕ) → put l at [] ≡ l
 unfolding put

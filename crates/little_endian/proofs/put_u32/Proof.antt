@@ -1,12 +1,12 @@
--- `records::put_u32` meets its contract. Assumes nothing.
+-- `little_endian::put_u32` meets its contract. Assumes nothing.
 use borrow.Author.Needs.{needs}
 use native.Mathlib.Omega.{arith}
 use native.Mathlib.Numerals.{add-one, add-two, add-three}
 use lib.ListN.{length-set}
 use lib.Seq.{sets-eq}
-use Rattle.records.specs.Numbers.{u32Bytes, put}
-use Rattle.records.proofs.put_u32.Statement.{statement}
-use Rattle.records.proofs.put_u32.Tie as tie
+use Rattle.little_endian.specs.Numbers.{u32Bytes, put}
+use Rattle.little_endian.proofs.put_u32.Statement.{statement}
+use Rattle.little_endian.proofs.put_u32.Tie as tie
 
 cast-out : tie.Need-cast-out
 cast-out c = search needs

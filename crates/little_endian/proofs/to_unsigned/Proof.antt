@@ -1,12 +1,12 @@
--- `records::to_unsigned` meets its contract: each arm hands the bits of z on. Assumes nothing.
+-- `little_endian::to_unsigned` meets its contract: each arm hands the bits of z on. Assumes nothing.
 use mathlib.Core.Path.{sym, ap, _∙_}
 use Prim.Native.Nat.{_-_, _^_, _<_}
 use mir.Syntax.{w32}
 use mir.Val.{ofZ}
 use mir.Facts.{fits-ofZ}
-use Rattle.records.proofs.Bits.{unsigned-ofZ, flipped, pos-cast, pos-abs, neg-low, pos-low}
-use Rattle.records.proofs.to_unsigned.Statement.{statement}
-use Rattle.records.proofs.to_unsigned.Tie as tie
+use Rattle.little_endian.proofs.Bits.{unsigned-ofZ, flipped, pos-cast, pos-abs, neg-low, pos-low}
+use Rattle.little_endian.proofs.to_unsigned.Statement.{statement}
+use Rattle.little_endian.proofs.to_unsigned.Tie as tie
 
 low : (c : tie.Then1) → (2 ^ 32 - 1) - ofZ w32 (c .before .args .z) < 2 ^ 31
 low c = neg-low (c .before .args .z) (c .before .fits .z) (c .if1 .taken)

@@ -1,11 +1,11 @@
--- `records::to_signed` meets its contract: each arm hands the bits of u on. Assumes nothing.
+-- `little_endian::to_signed` meets its contract: each arm hands the bits of u on. Assumes nothing.
 use mathlib.Core.Path.{sym, ap, _∙_}
 use borrow.Author.Needs.{needs}
 use mir.Syntax.{w32}
 use mir.Val.{toZ}
-use Rattle.records.proofs.Bits.{signed-toZ, flipped}
-use Rattle.records.proofs.to_signed.Statement.{statement}
-use Rattle.records.proofs.to_signed.Tie as tie
+use Rattle.little_endian.proofs.Bits.{signed-toZ, flipped}
+use Rattle.little_endian.proofs.to_signed.Statement.{statement}
+use Rattle.little_endian.proofs.to_signed.Tie as tie
 
 cast-result : tie.Need-cast-result
 cast-result c = search needs

@@ -5,6 +5,7 @@ use mathlib.Core.List.{List, [], _∷_, _++_}
 use lib.ListN.{getD, length, take, drop}
 use lib.Dec.{ltb}
 use lib.IntN.{ℤ, pos, negsuc}
+use lib.Signed.{mag}
 
 -- the number in the four bytes from `at`, the lowest first
 abbrev pub u32At : List ℕ → (at : ℕ) → ℕ
@@ -38,3 +39,10 @@ put l at vs = take at l ++ vs ++ drop (at + length vs) l
 -- what a slice of bytes holds: numbers below 256
 abbrev pub Bytes : List ℕ → Type 0
 Bytes b = (i : ℕ) → getD b i 0 < 256
+
+-- what a signed 32-bit number is (`mag` of k is k, and so of -(k + 1): from -2^31 up to 2^31 - 1), and an unsigned one
+abbrev pub IsI32 : ℤ → Type 0
+IsI32 z = mag z < 2 ^ 31
+
+abbrev pub IsU32 : ℕ → Type 0
+IsU32 u = u < 2 ^ 32

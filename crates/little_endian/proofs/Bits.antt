@@ -11,8 +11,7 @@ use mir.Syntax.{w32}
 use mir.Val.{Fits, SFits, toZ, ofZ, sel}
 use mir.Facts.{toZ-ofZ, ofZ-toZ, toZ-pos, fits-ofZ, sfits-toZ}
 use Rattle.arith.proofs.Fits.{back}
-use Rattle.records.specs.Numbers.{signed, unsigned}
-use Rattle.records.specs.Records.{IsI32, IsU32}
+use Rattle.little_endian.specs.Numbers.{signed, unsigned, IsI32, IsU32}
 
 cond-sel : (b : Bool) (x y : ℤ) → cond b x y ≡ sel b x y
 cond-sel true x y = refl

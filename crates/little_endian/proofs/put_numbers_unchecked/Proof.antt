@@ -1,14 +1,14 @@
--- `records::put_numbers` meets its contract. Each turn puts a number before those still to be put. Assumes nothing.
+-- `little_endian::put_numbers_unchecked` meets its contract. Each turn puts a number before those still to be put. Assumes nothing.
 use mathlib.Core.Path.{_≡_, _∙_}
 use Prim.Native.Nat.{_≤_, _-_, _*_, _+_}
 use borrow.Author.Needs.{needs}
 use native.Mathlib.Omega.{arith}
 use denote.Ref.{now}
 use lib.ListN.{length, drop, drop-of-length-le}
-use Rattle.records.specs.Numbers.{numbersBytes, put}
-use Rattle.records.proofs.Puts.{put-none, number-turn}
-use Rattle.records.proofs.put_numbers.Statement.{statement}
-use Rattle.records.proofs.put_numbers.Tie as tie
+use Rattle.little_endian.specs.Numbers.{numbersBytes, put}
+use Rattle.little_endian.proofs.Puts.{put-none, number-turn}
+use Rattle.little_endian.proofs.put_numbers_unchecked.Statement.{statement}
+use Rattle.little_endian.proofs.put_numbers_unchecked.Tie as tie
 
 abbrev Inv-loop : tie.InvT-loop
 Inv-loop out₀ numbers i₀ out i = (i ≤ length numbers) × (length out ≡ length out₀) × (put out (1 + 4 * i) (numbersBytes (drop i numbers)) ≡ put out₀ 1 (numbersBytes numbers))
@@ -60,8 +60,8 @@ returns c =
     let l = c .before in
     rw (drop-of-length-le (now (l .before .before .before .args .numbers)) {i = l .loop .i} (c .loop-test .left), put-none) at (l .loop .inv .2)
 
-pub put-numbers-spec : {M : Type 1} → statement M
-put-numbers-spec =
+pub put-numbers-unchecked-spec : {M : Type 1} → statement M
+put-numbers-unchecked-spec =
     tie.close
     (tie.spec
     Inv-loop

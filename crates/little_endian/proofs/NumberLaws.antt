@@ -7,10 +7,9 @@ use native.Mathlib.Nat.{div-div-eq-div-mul, mod-eq-of-lt}
 use native.Mathlib.Numerals.{add-one, add-two, add-three}
 use lib.ListN.{getD, length, take, drop, take-append-drop}
 use lib.Seq.{drop-cons, drop-drop}
-use Rattle.records.specs.Numbers.{u32At, i32At, signed, unsigned, u32Bytes, Bytes}
-use Rattle.records.specs.Records.{IsI32, IsU32}
-use Rattle.records.specs.Laws.{U32Back, I32Back, U32Forth, I32Forth}
-use Rattle.records.proofs.Bits.{signed-unsigned, unsigned-signed, unsigned-fits, signed-fits}
+use Rattle.little_endian.specs.Numbers.{u32At, i32At, signed, unsigned, u32Bytes, Bytes, IsI32, IsU32}
+use Rattle.little_endian.specs.Laws.{U32Back, I32Back, U32Forth, I32Forth}
+use Rattle.little_endian.proofs.Bits.{signed-unsigned, unsigned-signed, unsigned-fits, signed-fits}
 
 pub u32-back : U32Back
 unfolding u32Bytes
