@@ -1,5 +1,5 @@
 -- Document 01, 'The atlas file': the bytes that a sheet and its places make, and when the writer refuses them.
-use Prim.Native.Nat.{ℕ, _+_}
+use Prim.Native.Nat.{ℕ, _+_, _*_}
 use mathlib.Core.List.{List, [], _∷_, _++_}
 use lib.ListN.{length}
 use lib.Dec.{leb}
@@ -21,6 +21,10 @@ placeRecords (p ∷ ps) = placeRecord p ++ placeRecords ps
 
 unfoldable pub fileOf : Sheet → List Place → List ℕ
 fileOf s ps = sheetRecord s ++ placeRecords ps ++ endRecord (length ps)
+
+-- the length of a file with so many places: its sheet's record, 37 bytes a place, and 5
+abbrev pub fileLength : Sheet → (count : ℕ) → ℕ
+fileLength s count = length (sheetRecord s) + 37 * count + 5
 
 -- each place in turn 6, 7, 8, 14, after `count` places, the last with the id `last`
 unfoldable pub placesRules : Sheet → (count last : ℕ) → List Place → List Rule

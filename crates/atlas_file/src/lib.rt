@@ -27,7 +27,7 @@ use sheet::Sheet;
 use sheet::Verdict;
 
 // A file has up to this many places.
-const MOST_PLACES: usize = 1000;
+pub const MOST_PLACES: usize = 1000;
 
 // Where a reader stands.
 pub struct State {

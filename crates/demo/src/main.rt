@@ -1,9 +1,11 @@
-// Runs the engine on the worked examples of document 01, cases 1 to 11, and just outside the ranges and the
+// Runs the engine on the worked examples of document 01, cases 1 to 12, and just outside the ranges and the
 // sheet: a line for each, its input, and its values or refusal.
 use atlas_file::FileAnswer;
 use conic::GlobeAnswer;
 use conic::MapAnswer;
 use libc::STDOUT_FILENO;
+use lookup::Lookup;
+use lookup::LookupAnswer;
 use refusal::Refusal;
 use sheet::Sheet;
 use sheet::Verdict;
@@ -56,18 +58,58 @@ fn show_sheets() {
 
 // The file of sheet A and place 7, "Mill", at latitude 31 degrees.
 fn show_files() {
-    show_cuts(
+    show_file(
         b"\x01\x80\xc3\xc9\x01\x80\xc3\xc9\x01\x80\xc3\xc9\x01\x80\x96\x98\x00\x00\x2d\x31\x01\x00\x5a\x62\x02\x00\x87\x93\x03\x00\x00\x00\x20\xa1\x08\xb4\x07\x02\x07\x00\x00\x00\xc0\x05\xd9\x01\x80\x96\x98\x00\x00\x00\x00\x00\x40\x42\x0f\x00Mill\x00\x00\x00\x00\x00\x00\x00\x00\x00\x00\x00\x00\x03\x01\x00\x00\x00",
     );
 }
 
-// A file, all but its last byte, and none of it.
-fn show_cuts(file: &[u8]) {
+// A file, all but its last byte, and none of it; its places by position and by tap.
+fn show_file(file: &[u8]) {
     show_read(b"79 bytes", file);
     if 78 <= file.len() {
         show_read(b"78 bytes", &file[0..78]);
     }
     show_read(b"0 bytes", &file[0..0]);
+    show_place(file, 0);
+    show_place(file, 1);
+    show_nearest(file, 0, 1000000, 50000);
+    show_nearest(file, 30000, 1040000, 50000);
+    show_nearest(file, 30000, 1040000, 49999);
+    show_nearest(file, 536870913, 0, 50000);
+    show_nearest(file, 0, 0, 1048577);
+}
+
+// The place at a position of a file.
+fn show_place(file: &[u8], position: usize) {
+    io::write_all(STDOUT_FILENO, b"place ");
+    io::print_decimal(STDOUT_FILENO, position as u64);
+    show_lookup(lookup::place_at(file, position));
+}
+
+// The place of a file that is nearest to a tap: x, y and the reach.
+fn show_nearest(file: &[u8], x: i64, y: i64, reach: i64) {
+    io::write_all(STDOUT_FILENO, b"nearest ");
+    print(x);
+    io::write_all(STDOUT_FILENO, b" ");
+    print(y);
+    io::write_all(STDOUT_FILENO, b" ");
+    print(reach);
+    show_lookup(lookup::nearest_place(file, x, y, reach));
+}
+
+// The id of a place that is found.
+fn show_lookup(answer: LookupAnswer) {
+    let found = answer.found;
+    match found {
+        Lookup::Place { position: _ } => {
+            io::write_all(STDOUT_FILENO, b" id ");
+            io::print_decimal(STDOUT_FILENO, answer.place.id as u64);
+            io::write_all(STDOUT_FILENO, b"\n");
+        }
+        Lookup::Refused { refusal, offset: _ } => {
+            show_refusal(refusal);
+        }
+    }
 }
 
 // Sheet A with a half-width and a cone constant.

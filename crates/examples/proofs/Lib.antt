@@ -1,3 +1,4 @@
 -- The worked examples hold.
 pub mod Hold
 pub mod Read
+pub mod Stored

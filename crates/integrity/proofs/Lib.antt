@@ -5,3 +5,5 @@ pub mod Shown
 pub mod Rooms
 pub mod Returns
 pub mod Cuts
+pub mod Lengths
+pub mod Stands

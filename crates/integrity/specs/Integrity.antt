@@ -3,20 +3,22 @@ use Prim.Native.Nat.{ℕ, _+_, _*_, _≤_, _<_}
 use mathlib.Core.Bool.{true}
 use mathlib.Core.Path.{_≡_}
 use mathlib.Core.List.{List, [], _∷_}
-use lib.ListN.{length, take}
+use lib.ListN.{length, getD, take, drop}
 use lib.IntN.{pos}
 use Rattle.refusal.specs.declared.Refusal.the-variants.{Cut, NoRoom}
 use Rattle.refusal.specs.Numbers.{accepted}
 use Rattle.refusal.specs.Rules.{allHold}
 use Rattle.sheet.specs.declared.Sheet.{Sheet}
 use Rattle.place.specs.Laws.{IsOwn}
+use Rattle.place.specs.Places.{blankPlace}
 use Rattle.place.specs.declared.Place.{Place}
 use Rattle.little_endian.specs.Numbers.{Bytes}
-use Rattle.records.specs.Records.{IsSheet, IsPlace, sheetRecord}
+use Rattle.records.specs.declared.Record.the-variants as records
+use Rattle.records.specs.Records.{IsRecord, IsSheet, IsPlace, sheetRecord, placeOf}
 use Rattle.records.specs.Laws.{longestSheetRecord}
 use Rattle.atlas_file.specs.Steps.{mostPlaces}
 use Rattle.atlas_file.specs.Reading.{acceptedReading, refusedReading, readOf, readReply, placesRead}
-use Rattle.atlas_file.specs.Writing.{fileOf, listRules, writeReply}
+use Rattle.atlas_file.specs.Writing.{fileOf, fileLength, listRules, writeReply}
 
 -- THE COUNT of an accepted file is the number of the places read, at most 1,000 and at most the room (Accepted)
 abbrev pub CountIsPlaces : Type 0
@@ -80,8 +82,7 @@ WriterAccepts = (b : List ℕ) (room size : ℕ) → Bytes b → readReply b roo
 
 -- THE LENGTH of an accepted file: its sheet's record, 37 bytes a place, and 5 (Accepted)
 abbrev pub FileLength : Type 0
-FileLength = (b : List ℕ) (room : ℕ) → readReply b room .number ≡ 0 →
-    length b ≡ length (sheetRecord (readReply b room .sheet)) + 37 * readReply b room .count + 5
+FileLength = (b : List ℕ) (room : ℕ) → readReply b room .number ≡ 0 → length b ≡ fileLength (readReply b room .sheet) (readReply b room .count)
 
 -- so it is no longer than its sheet's record and 37,005 bytes more: with a sheet's record of 37 bytes, 37,042 (Accepted)
 abbrev pub longestFile : ℕ
@@ -94,3 +95,20 @@ LongestFile = (b : List ℕ) (room : ℕ) → readReply b room .number ≡ 0 →
 -- and reading the first 37,043 bytes of anything, or more, gives the answer of the whole (Cuts)
 abbrev pub FirstBytesDecide : Type 0
 FirstBytesDecide = (b : List ℕ) (room k : ℕ) → longestFile < k → readOf (take k b) room ≡ readOf b room
+
+-- what the writer makes has that length too (Lengths)
+abbrev pub WrittenLength : Type 0
+WrittenLength = (s : Sheet) (ps : List Place) → allHold (listRules s ps) ≡ true → length (fileOf s ps) ≡ fileLength s (length ps)
+
+-- WHERE A PLACE STANDS: its record is the 37 bytes from `at` on
+abbrev pub StandsAt : List ℕ → (at : ℕ) → Place → Type 0
+StandsAt b at p = IsRecord records.Place (take 37 (drop at b)) × (placeOf (take 37 (drop at b)) ≡ p)
+
+-- in an accepted file the places stand one after the other, after the sheet (Stands)
+abbrev pub PlaceStands : Type 0
+PlaceStands = (b : List ℕ) (room k : ℕ) → readReply b room .number ≡ 0 → k < readReply b room .count →
+    StandsAt b (length (sheetRecord (readReply b room .sheet)) + 37 * k) (getD (placesRead b room) k blankPlace)
+
+-- a refused file has no places (Stands)
+abbrev pub RefusedHasNone : Type 0
+RefusedHasNone = (b : List ℕ) (room : ℕ) → (readReply b room .number ≡ 0 → ⊥) → placesRead b room ≡ []

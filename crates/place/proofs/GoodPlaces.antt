@@ -12,8 +12,10 @@ use Rattle.arith.proofs.Order.{≤ℤ-antisymm, within-true}
 use Rattle.refusal.specs.Numbers.{Reply, accepted}
 use Rattle.conic.specs.Conic.{xOf, yOf, forwardReply}
 use Rattle.conic.proofs.Answered.{not-refused-point}
+use Rattle.place.specs.Names.{isName}
 use Rattle.place.specs.Places.{rises, isAt, placeRulesAt, placeRules}
-use Rattle.place.specs.Laws.{OwnPosition, AboveTheLast}
+use Rattle.place.specs.Laws.{OwnPosition, AboveTheLast, HasName}
+use Rattle.place.proofs.NameLaws.{name-holds}
 
 -- a number between a and a
 same : (a z : ℤ) → isWithin a a z ≡ true → z ≡ a
@@ -37,3 +39,10 @@ unfolding placeRules placeRulesAt
 above-the-last s count last p h e =
     let not-first : eqb count 0 ≡ false = ne-eqb count 0 (λ (z : count ≡ 0). omega arith) in
     ltb-true _ _ (rw not-first at (and-elim-left (rises count last (p .«id»)) _ e))
+
+pub has-name : HasName
+unfolding placeRules placeRulesAt
+has-name s count last p e =
+    let position = forwardReply s (p .«latitude») (p .«longitude») in
+    let known = and-elim-right (eqb (position .number) 0) _ (and-elim-right (rises count last (p .«id»)) _ e) in
+    name-holds (p .«name») (and-elim-left (isName (p .«name»)) _ (and-elim-right (isAt position (p .«x») (p .«y»)) _ known))

@@ -36,3 +36,7 @@ OwnPosition = (s : Sheet) (count last : ℕ) (p : Place) → allHold (placeRules
 -- its id is above the last, unless it is the first (GoodPlaces)
 abbrev pub AboveTheLast : Type 0
 AboveTheLast = (s : Sheet) (count last : ℕ) (p : Place) → 0 < count → allHold (placeRules s count last p) ≡ true → last < p .«id»
+
+-- its name is a name (GoodPlaces)
+abbrev pub HasName : Type 0
+HasName = (s : Sheet) (count last : ℕ) (p : Place) → allHold (placeRules s count last p) ≡ true → IsName (p .«name»)

@@ -26,6 +26,11 @@ const PLACE_BODY: usize = 36;
 
 const END_BODY: usize = 4;
 
+// How long a place's record and the end record are, kind byte and body.
+pub const PLACE_RECORD: usize = 37;
+
+pub const END_RECORD: usize = 5;
+
 // Which record it is.
 pub enum Record {
     Sheet,

@@ -1,0 +1,3 @@
+-- Two answers of a lookup never share a reply.
+pub mod Derived
+pub mod Answers
