@@ -17,7 +17,7 @@ use Rattle.refusal.proofs.Distinct.{number-of, same-values, accepted-or-refused
 use Rattle.place.specs.declared.Place.{Place}
 use Rattle.nearest.specs.declared.Candidate.{Candidate}
 use Rattle.nearest.specs.declared.Best.the-variants.{Nothing, Found}
-use Rattle.nearest.specs.Taps.{tapInRange, squared, isBefore, withinReach, better, bestOf, bestReply, nearestReply}
+use Rattle.nearest.specs.Taps.{tapInRange, squared, withinReach, better, bestOf, bestReply, nearestReply}
 use Rattle.nearest.specs.Laws.{squaredDistanceAt, candidateOf, IsNearest, NearestIsLeast, LeastIsNearest, NoneInReach, RefusedNoneInReach, NoneInReachRefused}
 use Rattle.nearest.proofs.Order.{nearer-before, not-both-before}
 use Rattle.nearest.proofs.FirstOfList.{NotAfter, FirstOf, first-of}

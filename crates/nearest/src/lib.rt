@@ -108,8 +108,7 @@ fn candidate_at(place: Place, position: usize, x: i64, y: i64) -> Candidate
 
 // The best of a table's places within reach, for a tap in range.
 fn best_of(table: &[Place], x: i64, y: i64, squared_reach: u64) -> Best
-    requires { ⌜ Size (pos tapLimit) x ⌝ }
-    requires { ⌜ Size (pos tapLimit) y ⌝ }
+    requires { ⌜ Size (pos tapLimit) x × Size (pos tapLimit) y ⌝ }
     ensures { λ r. ⌜ r ≡ bestOf Nothing (withinReachFrom 0 (now (table .entry)) x y «squared_reach») ⌝ }
 {
     let mut best = Best::Nothing;
