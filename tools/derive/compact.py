@@ -1,4 +1,3 @@
-#!/usr/bin/env python3
 """compact.py: the text of a generated antt module, laid out in long lines, with lists in the infix form, struct types by name and arguments left to antt"""
 import re
 

@@ -95,7 +95,7 @@ def derive_layer(listed, crate, structs, twin, keep, every, kinds):
         for struct, size in structs.items():
             if kinds[struct] == crate:
                 template = (here / ("HeldKind.antt.in" if size == "held" else "Kind.antt.in")).read_text()
-                module(f"{struct}Kind", f"a `{struct}` by value, as a parameter and as a result, and its name behind a reference.",
+                module(f"{struct}Kind", f"a `{struct}` by value, as a parameter and as a result" + ("." if size == "held" else ", and its name behind a reference."),
                        template.replace("@STRUCT", t.home_of(struct)[1]).replace("@CRATE", crate).replace("@S", struct))
         try:
             # of a function that they call, and that is proved by a walk, only the reading
@@ -156,12 +156,12 @@ def derive(wanted):
     return {crate: formatted(crate, files) for crate, files in made.items()}
 
 
-def skeleton(function, module, tie):
+def skeleton(crate, function, module, tie):
     """The author's file to begin with: an answer for each need, left to the search; the invariants and the measures are holes."""
     loops = re.findall(r"^abbrev pub InvT-(\S+) ", tie, flags=re.M)
     given = "".join(f" Inv-{loop} μ-{loop}" for loop in loops)
     needs = re.findall(r"^abbrev pub Need-(\S+) ", tie, flags=re.M)
-    lines = [f"-- `{function}` meets its contract. Assumes nothing.", "mod Lts", "mod Tie", "use borrow.Author.Needs.{needs}",
+    lines = [f"-- `{crate}::{function}` meets its contract. Assumes nothing.", "mod Lts", "mod Tie", "use borrow.Author.Needs.{needs}",
              f"use {module}.Statement.{{statement}}", f"use {module}.Proof.Tie as tie", ""]
     for loop in loops:
         lines += [f"abbrev Inv-{loop} : tie.InvT-{loop}", f"Inv-{loop} = ?", "", f"abbrev μ-{loop} : tie.MeasureT-{loop}", f"μ-{loop} = ?", ""]
@@ -180,7 +180,7 @@ def write(proofs, crate, files):
         if file.name == "Tie.antt" and not author.exists():
             function = file.parent.parent
             module = ".".join([f"Rattle.{crate}.proofs", *function.relative_to(proofs).parts])
-            author.write_text(skeleton(function.name, module, text))
+            author.write_text(skeleton(crate, function.name, module, text))
 
 
 def main():

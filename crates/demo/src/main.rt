@@ -1,5 +1,5 @@
-// Runs the engine on the worked examples of document 01, cases 1 to 12, and just outside the ranges and the
-// sheet: a line for each, its input, and its values or refusal.
+// Runs the engine on the worked examples of document 01, cases 1 to 10, the file of case 11 and the tap of case 12,
+// and just outside the ranges and the sheet: a line for each, its input, and its values or refusal.
 use atlas_file::FileAnswer;
 use conic::GlobeAnswer;
 use conic::MapAnswer;
@@ -190,7 +190,7 @@ fn show_check(name: &[u8], value: i64, sheet: Sheet) {
 fn show_read(name: &[u8], bytes: &[u8]) {
     io::write_all(STDOUT_FILENO, b"read ");
     io::write_all(STDOUT_FILENO, name);
-    let answer = atlas_file::read_through(bytes, 1);
+    let answer = reader::run(bytes, 1);
     match answer {
         FileAnswer::Atlas { count, sheet: _ } => {
             io::write_all(STDOUT_FILENO, b" places ");

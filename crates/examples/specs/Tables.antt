@@ -37,23 +37,23 @@ abbrev pub foundAt : (position : ℕ) → Reply
 foundAt k = accepted (pos k ∷ [])
 
 -- 50 units from 0, 0 each: the lowest id, then the earliest; at the reach, and one unit short of it; the limits of the reach and of the tap, and one past each
-abbrev pub hamlets : List Place
-hamlets = placeAt 9 (pos 30) (pos 40) ∷ placeAt 5 (negsuc 29) (pos 40) ∷ placeAt 5 (pos 50) (pos 0) ∷ []
+abbrev pub threePlaces : List Place
+threePlaces = placeAt 9 (pos 30) (pos 40) ∷ placeAt 5 (negsuc 29) (pos 40) ∷ placeAt 5 (pos 50) (pos 0) ∷ []
 
 abbrev pub TapReplies : Type 0
 TapReplies =
-    nearestReply hamlets (pos 0) (pos 0) (pos 50)
-    ∷ nearestReply hamlets (pos 1) (pos 0) (pos 50)
-    ∷ nearestReply hamlets (pos 0) (pos 0) (pos 49)
+    nearestReply threePlaces (pos 0) (pos 0) (pos 50)
+    ∷ nearestReply threePlaces (pos 1) (pos 0) (pos 50)
+    ∷ nearestReply threePlaces (pos 0) (pos 0) (pos 49)
     ∷ nearestReply [] (pos 0) (pos 0) (pos 1048576)
-    ∷ nearestReply hamlets (pos 50) (pos 0) (pos 0)
-    ∷ nearestReply hamlets (pos 0) (pos 0) (pos 1048576)
-    ∷ nearestReply hamlets (pos 0) (pos 0) (pos 1048577)
-    ∷ nearestReply hamlets (pos 0) (pos 0) (negsuc 0)
-    ∷ nearestReply hamlets (pos 536870912) (pos 0) (pos 50)
-    ∷ nearestReply hamlets (pos 536870913) (pos 0) (pos 50)
-    ∷ nearestReply hamlets (pos 0) (negsuc 536870911) (pos 50)
-    ∷ nearestReply hamlets (pos 0) (negsuc 536870912) (pos 50)
+    ∷ nearestReply threePlaces (pos 50) (pos 0) (pos 0)
+    ∷ nearestReply threePlaces (pos 0) (pos 0) (pos 1048576)
+    ∷ nearestReply threePlaces (pos 0) (pos 0) (pos 1048577)
+    ∷ nearestReply threePlaces (pos 0) (pos 0) (negsuc 0)
+    ∷ nearestReply threePlaces (pos 536870912) (pos 0) (pos 50)
+    ∷ nearestReply threePlaces (pos 536870913) (pos 0) (pos 50)
+    ∷ nearestReply threePlaces (pos 0) (negsuc 536870911) (pos 50)
+    ∷ nearestReply threePlaces (pos 0) (negsuc 536870912) (pos 50)
     ∷ []
     ≡ foundAt 1
     ∷ foundAt 2

@@ -1,3 +1,3 @@
--- Two answers of a lookup never share a reply.
+-- What is derived of the crate's functions, and that two answers of a lookup never share a reply.
 pub mod Derived
 pub mod Answers

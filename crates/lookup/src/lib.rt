@@ -44,7 +44,7 @@ pub fn place_at(bytes: &[u8], position: usize) -> LookupAnswer
 pub fn nearest_place(bytes: &[u8], x: i64, y: i64, reach: i64) -> LookupAnswer
     ensures { λ r. ⌜ lookupReplyOf r ≡ nearestPlaceReply (now (bytes .entry)) x y reach ⌝ }
 {
-    let mut table = blanks();
+    let mut table = blank_table();
     let answer = atlas::read(bytes, &mut table);
     match answer {
         FileAnswer::Atlas { count, sheet: _ } => nearest_among(&table, count, x, y, reach),
@@ -67,8 +67,8 @@ fn nearest_among(table: &[Place], count: usize, x: i64, y: i64, reach: i64) -> L
     }
 }
 
-// A table for as many places as a file can have.
-fn blanks() -> [Place; 1000]
+// A table for as many places as a file can have; what it holds does not matter.
+fn blank_table() -> [Place; 1000]
     ensures { λ r. ⌜ length r ≡ 1000 ⌝ }
 {
     let place = place::blank();

@@ -3,7 +3,7 @@ pub mod Sizes
 pub mod Order
 pub mod FirstOfList
 pub mod WithinReach
-pub mod Replies
+pub mod Answers
 pub mod NearestLaws
 pub mod Turns
 pub mod Derived

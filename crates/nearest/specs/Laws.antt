@@ -14,7 +14,7 @@ use Rattle.nearest.specs.declared.Candidate.{Candidate}
 use Rattle.nearest.specs.declared.NearestAnswer.{NearestAnswer}
 use Rattle.nearest.specs.Taps.{tapInRange, squared, squaredDistance, candidateAt, isBefore, nearestReply, nearestReplyOf}
 
--- two answers never share a number and values, so that the contract fixes the answer (Replies)
+-- two answers never share a number and values, so that the contract fixes the answer (Answers)
 abbrev pub DistinctNearestReplies : Type 0
 DistinctNearestReplies = (a b : NearestAnswer) → nearestReplyOf a ≡ nearestReplyOf b → a ≡ b
 

@@ -1,4 +1,4 @@
-// A table of places that the caller lends: a slice of structs. These two functions are all that looks into it.
+// A table of places that the caller lends: a slice of structs. Only these two functions look into it.
 //
 // A function whose name ends in _unchecked is not offered to callers, as in trig.
 ghost use mathlib.Core.Path.{_≡_};
@@ -8,17 +8,17 @@ ghost use Rattle.place.specs.Places.{blankPlace};
 use place::Place;
 
 // The place at a position of a table, counted from 0; not offered to callers.
-pub fn place_at_unchecked(table: &[Place], at: usize) -> Place
-    requires { ⌜ at < length (now table) ⌝ }
-    ensures { λ r. ⌜ r ≡ getD (now (table .entry)) at blankPlace ⌝ }
+pub fn place_at_unchecked(table: &[Place], position: usize) -> Place
+    requires { ⌜ position < length (now table) ⌝ }
+    ensures { λ r. ⌜ r ≡ getD (now (table .entry)) position blankPlace ⌝ }
 {
-    table[at]
+    table[position]
 }
 
 // Stores a place at a position of a table; not offered to callers.
-pub fn set_place_unchecked(table: &mut [Place], at: usize, place: Place)
-    requires { ⌜ at < length (now table) ⌝ }
-    ensures { λ _. ⌜ now (table .exit) ≡ set (now (table .entry)) at place ⌝ }
+pub fn set_place_unchecked(table: &mut [Place], position: usize, place: Place)
+    requires { ⌜ position < length (now table) ⌝ }
+    ensures { λ _. ⌜ now (table .exit) ≡ set (now (table .entry)) position place ⌝ }
 {
-    table[at] = place;
+    table[position] = place;
 }

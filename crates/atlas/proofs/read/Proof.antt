@@ -1,4 +1,4 @@
--- `read` meets its contract. Assumes nothing.
+-- `atlas::read` meets its contract. Assumes nothing.
 mod Lts
 mod Tie
 use mathlib.Core.Path.{_≡_, sym, ap, _∙_}

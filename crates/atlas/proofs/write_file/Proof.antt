@@ -1,4 +1,4 @@
--- `write_file` meets its contract. Assumes nothing.
+-- `atlas::write_file` meets its contract. Assumes nothing.
 mod Lts
 mod Tie
 use mathlib.Core.Path.{sym, _∙_}

@@ -17,8 +17,8 @@ use Rattle.lookup.proofs.Answers.{not-zero}
 use Rattle.lookup.proofs.nearest_place.Statement.{statement}
 use Rattle.lookup.proofs.nearest_place.Proof.Tie as tie
 
-blanks-requires : tie.Need-blanks-requires
-blanks-requires c κs = search needs
+blank-table-requires : tie.Need-blank-table-requires
+blank-table-requires c κs = search needs
 
 slice-aggregate-read : tie.Need-slice-aggregate-read
 slice-aggregate-read c = search needs
@@ -34,7 +34,7 @@ slice-aggregate-nearest-among c = search needs
 
 -- what the file is read as
 was-read : (c : tie.After-read) → fileReplyOf (c .read .result) ≡ readReply (now (c .before .before .before .before .args .bytes)) mostPlaces
-was-read c = c .read .ensures .0 ∙ ap (readReply _) (c .before .before .blanks .ensures)
+was-read c = c .read .ensures .0 ∙ ap (readReply _) (c .before .before .blank-table .ensures)
 
 module _ (c : tie.After-answer) where
   abbrev s : tie.Start
@@ -53,7 +53,7 @@ module _ (c : tie.After-answer) where
   first-entries : take count (c .before .before .before .read .last .1 .0) ≡ placesRead (now (s .args .bytes)) mostPlaces
   first-entries =
       let r = c .before .before .before in
-      let same = ap (placesRead (now (s .args .bytes))) (r .before .before .blanks .ensures) in
+      let same = ap (placesRead (now (s .args .bytes))) (r .before .before .blank-table .ensures) in
       ap (take count) (r .read .ensures .1)
       ∙ take-at _ _ count (sym (counted ∙ ap length (sym same)))
       ∙ same
@@ -62,7 +62,7 @@ nearest-among-requires : tie.Need-nearest-among-requires
 nearest-among-requires c κs =
     let a = c .before .before in
     let r = a .before .before .before in
-    omega (arith, ap (λ (X : FileReply). X .count) (told a), accepted-count (accepted-file (told a) refl) .1, r .read .kept .1 .0, r .before .before .blanks .ensures)
+    omega (arith, ap (λ (X : FileReply). X .count) (told a), accepted-count (accepted-file (told a) refl) .1, r .read .kept .1 .0, r .before .before .blank-table .ensures)
 
 enum-known-answer-2 : tie.Need-enum-known-answer-2
 enum-known-answer-2 c = search needs
@@ -87,7 +87,7 @@ pub nearest-place-spec : {M : Type 1} → statement M
 nearest-place-spec =
     tie.close
     (tie.spec
-    blanks-requires
+    blank-table-requires
     slice-aggregate-read
     read-requires
     enum-known-answer

@@ -1,4 +1,4 @@
--- `place_at_unchecked` meets its contract. Assumes nothing.
+-- `table::place_at_unchecked` meets its contract. Assumes nothing.
 mod Lts
 mod Tie
 use borrow.Author.Needs.{needs}

@@ -1,4 +1,4 @@
--- `set_place_unchecked` meets its contract. Assumes nothing.
+-- `table::set_place_unchecked` meets its contract. Assumes nothing.
 mod Lts
 mod Tie
 use borrow.Author.Needs.{needs}

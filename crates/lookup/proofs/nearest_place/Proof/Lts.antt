@@ -112,7 +112,7 @@ abbrev pub hs : List S.Home
 hs = S.valueLocal ∷ S.valueLocal ∷ S.valueLocal ∷ S.valueLocal ∷ S.valueLocal ∷ S.memorySlot ∷ S.valueLocal ∷ S.valueLocal ∷ S.valueLocal ∷ S.valueLocal ∷ S.valueLocal ∷ S.valueLocal ∷ S.valueLocal ∷ S.valueLocal ∷ S.valueLocal ∷ S.valueLocal ∷ []
 
 abbrev b0 : S.Body
-b0 = S.call "lookup::blanks" [] (S.place 10 [])
+b0 = S.call "lookup::blank_table" [] (S.place 10 [])
 
 abbrev b1 : S.Body
 b1 = S.assign (S.place 5 []) (S.rvOpd (S.copy (S.place 10 [])))
@@ -407,7 +407,7 @@ module _ (claims· : Claims) where
   module _ (Pre· : (κs : Lifetimes.Lfts 1) → Kinds.Dens κs ps → Type 0) (Post· : (κs : Lifetimes.Lfts 1) → (a : Kinds.Dens κs ps) → Kinds.Plain 1 ps r κs) where
     module _ (M : Type 1) where
       abbrev pub Closed : Type 2
-      Closed = (𝓤 : URA.URA M) (H : Wp.Heap 𝓤) (A : Atoms.Atoms 𝓤) (W : Kit.Given 𝓤 H A) (𝓣 : Wp.Tables 𝓤 H) (known0 : Plain.Known 𝓤 H A W 𝓣 0 ps·0 r·0 (claims· .0) (claims· .1) "lookup::blanks") (known1 : Plain.Known 𝓤 H A W 𝓣 2 ps·1 r·1 (claims· .2) (claims· .3) "atlas::read") (known2 : Plain.Known 𝓤 H A W 𝓣 1 ps·2 r·2 (claims· .4) (claims· .5) "lookup::nearest_among") (known3 : Plain.Known 𝓤 H A W 𝓣 0 ps·3 r·3 (claims· .6) (claims· .7) "lookup::refused") → Statement.Triple 𝓤 (Wp.WpFn 𝓤 H (𝓣 .C) (𝓣 .Λ) (Function.fnOf 1 ps r xs m hs body)) (Function.plainOf 𝓤 H A 1 ps r Pre· Post·)
+      Closed = (𝓤 : URA.URA M) (H : Wp.Heap 𝓤) (A : Atoms.Atoms 𝓤) (W : Kit.Given 𝓤 H A) (𝓣 : Wp.Tables 𝓤 H) (known0 : Plain.Known 𝓤 H A W 𝓣 0 ps·0 r·0 (claims· .0) (claims· .1) "lookup::blank_table") (known1 : Plain.Known 𝓤 H A W 𝓣 2 ps·1 r·1 (claims· .2) (claims· .3) "atlas::read") (known2 : Plain.Known 𝓤 H A W 𝓣 1 ps·2 r·2 (claims· .4) (claims· .5) "lookup::nearest_among") (known3 : Plain.Known 𝓤 H A W 𝓣 0 ps·3 r·3 (claims· .6) (claims· .7) "lookup::refused") → Statement.Triple 𝓤 (Wp.WpFn 𝓤 H (𝓣 .C) (𝓣 .Λ) (Function.fnOf 1 ps r xs m hs body)) (Function.plainOf 𝓤 H A 1 ps r Pre· Post·)
 
     module _ where
       abbrev at0 : (bs : List Nat.ℕ) → Typed.TF (T t14) O1
@@ -517,7 +517,7 @@ module _ (claims· : Claims) where
 
       module _ {M : Type 1} (𝓤 : URA.URA M) (H : Wp.Heap 𝓤) (A : Atoms.Atoms 𝓤) (W : Kit.Given 𝓤 H A) (𝓣 : Wp.Tables 𝓤 H) where
         abbrev Knowns : Type 1
-        Knowns = Plain.Known 𝓤 H A W 𝓣 0 ps·0 r·0 (claims· .0) (claims· .1) "lookup::blanks" × Plain.Known 𝓤 H A W 𝓣 2 ps·1 r·1 (claims· .2) (claims· .3) "atlas::read" × Plain.Known 𝓤 H A W 𝓣 1 ps·2 r·2 (claims· .4) (claims· .5) "lookup::nearest_among" × Plain.Known 𝓤 H A W 𝓣 0 ps·3 r·3 (claims· .6) (claims· .7) "lookup::refused"
+        Knowns = Plain.Known 𝓤 H A W 𝓣 0 ps·0 r·0 (claims· .0) (claims· .1) "lookup::blank_table" × Plain.Known 𝓤 H A W 𝓣 2 ps·1 r·1 (claims· .2) (claims· .3) "atlas::read" × Plain.Known 𝓤 H A W 𝓣 1 ps·2 r·2 (claims· .4) (claims· .5) "lookup::nearest_among" × Plain.Known 𝓤 H A W 𝓣 0 ps·3 r·3 (claims· .6) (claims· .7) "lookup::refused"
 
       module _ (κs : Lifetimes.Lfts 1) (qs : Lifetimes.Shares 1) where
         abbrev G : List Row.Entry → Row.Cx
@@ -700,7 +700,7 @@ module _ (claims· : Claims) where
           d31 = Typed.s-seq 𝓤 H A W 𝓣 E _ _ _ _ _ _ _ (LocalCopy.t-val-copy 𝓤 H A W E 𝓣 (λ ρ. Unit) (G t2) 10 5 (Array'.Array Place.the-row 1000) (S.tyArray PlaceLaws.mir 1000) (S.tyArray PlaceLaws.mir 1000) (Rows.arrF Place.the-row 1000 0) (Rows.arrF Place.the-row 1000 0) (λ x. x) (λ x. x) (λ x. x) Path'.refl (Own.told-none 𝓤 H A ((G t2) .slots)) (Yields.yields-copy 𝓤 H A W (λ ρ. Unit) (Array'.Array Place.the-row 1000) Path'.refl (Copies.cArr Place.the-row (Copies.cStruct Place.the-type PlaceLaws.the-laws PlaceLaws.the-copy) 1000 .copy 𝓤 H A W) (Rows.arrF Place.the-row 1000 0) (λ x. x) (λ x. x) (λ ρ told. Whole'.mem-arr 𝓤 H A W Place.the-row 1000 ρ) λ ρ told. Whole'.arr-mem 𝓤 H A W Place.the-row 1000 tt ρ) (Reads.room-gone 𝓤 H A (S.tyArray PlaceLaws.mir 1000)) (Yields.makes-mem 𝓤 H A W (λ ρ. Unit) (Array'.Array Place.the-row 1000) Path'.refl (Rows.arrF Place.the-row 1000 0) (λ x. x) λ ρ told. Whole'.arr-mem 𝓤 H A W Place.the-row 1000 tt ρ) Path'.refl Path'.refl) d30
 
           d32 : Typed.Typed 𝓤 H A 𝓣 E (G t0) b26 Δ0 (at32 bs)
-          d32 = Typed.s-seq 𝓤 H A W 𝓣 E _ _ _ _ _ _ _ (Plain.t-call-plain 𝓤 H A W 𝓣 0 ps·0 r·0 (claims· .0) (claims· .1) "lookup::blanks" (known .0) E (λ pos β. β) (G t0) tt 10 [] (Call.sub-id 𝓤 H A W ((G t0) .slots)) tt (Reads.room-gone 𝓤 H A (S.tyArray PlaceLaws.mir 1000)) tt Path'.refl) d31
+          d32 = Typed.s-seq 𝓤 H A W 𝓣 E _ _ _ _ _ _ _ (Plain.t-call-plain 𝓤 H A W 𝓣 0 ps·0 r·0 (claims· .0) (claims· .1) "lookup::blank_table" (known .0) E (λ pos β. β) (G t0) tt 10 [] (Call.sub-id 𝓤 H A W ((G t0) .slots)) tt (Reads.room-gone 𝓤 H A (S.tyArray PlaceLaws.mir 1000)) tt Path'.refl) d31
 
           d33 : Typed.Typed 𝓤 H A 𝓣 E (G t0) b26 Δ0 (at33 bs)
           d33 = Typed.g-pre 𝓤 H A W 𝓣 E _ _ _ _ _ _ (Know.g-shs-known 𝓤 H A W (Referent.fInt S.w8) E (G t0) 1 0 (S.tyRef (S.named 0) S.imm (S.tyInt S.w8)) (Row.lease (κs .0) (qs .0)) 0 (λ x. x) record { fits = Dec'.lit< tt } (Reads.as-is 𝓤 H A (Rows'.sslice (Referent.rtF (Referent.fInt S.w8)) (S.tyRef (S.named 0) S.imm (S.tyInt S.w8)) 0)) Path'.refl tt) d32
@@ -749,22 +749,22 @@ module _ (claims· : Claims) where
         pub before : Start
         pub shared-slice-known : After-shared-slice-known·own before
 
-      abbrev pub Need-blanks-requires : Type 0
-      Need-blanks-requires = (c : After-shared-slice-known) → s1 (c .before .blocks) .asks (m1 (c .before) (c .shared-slice-known .given))
+      abbrev pub Need-blank-table-requires : Type 0
+      Need-blank-table-requires = (c : After-shared-slice-known) → s1 (c .before .blocks) .asks (m1 (c .before) (c .shared-slice-known .given))
 
       abbrev pub m2 : (before : After-shared-slice-known) → (given : s1 (before .before .blocks) .gives (m1 (before .before) (before .shared-slice-known .given))) → Typed.Mo (T t2)
       m2 = λ before given. s1 (before .before .blocks) .next (m1 (before .before) (before .shared-slice-known .given)) given
 
       module _ (before· : After-shared-slice-known) where
-        abbrev pub After-blanks·own : Type 0
-        After-blanks·own = Called.Called ps·0 r·0 (claims· .1) (T t0) tt (m1 (before· .before) (before· .shared-slice-known .given))
+        abbrev pub After-blank-table·own : Type 0
+        After-blank-table·own = Called.Called ps·0 r·0 (claims· .1) (T t0) tt (m1 (before· .before) (before· .shared-slice-known .given))
 
-      pub record After-blanks : Type 0 where
+      pub record After-blank-table : Type 0 where
         pub before : After-shared-slice-known
-        pub blanks : After-blanks·own before
+        pub blank-table : After-blank-table·own before
 
-      abbrev pub After-blanks·gave : (c : After-blanks) → s1 (c .before .before .blocks) .gives (m1 (c .before .before) (c .before .shared-slice-known .given))
-      After-blanks·gave = λ c. Called.given ps·0 r·0 (claims· .1) (T t0) tt (m1 (c .before .before) (c .before .shared-slice-known .given)) (c .blanks)
+      abbrev pub After-blank-table·gave : (c : After-blank-table) → s1 (c .before .before .blocks) .gives (m1 (c .before .before) (c .before .shared-slice-known .given))
+      After-blank-table·gave = λ c. Called.given ps·0 r·0 (claims· .1) (T t0) tt (m1 (c .before .before) (c .before .shared-slice-known .given)) (c .blank-table)
 
       abbrev pub m3 : (before : After-shared-slice-known) → (given : s1 (before .before .blocks) .gives (m1 (before .before) (before .shared-slice-known .given))) → Typed.Mo (T t3)
       m3 = λ before given. s2 (before .before .blocks) (m2 before given)
@@ -772,21 +772,21 @@ module _ (claims· : Claims) where
       abbrev pub m4 : (before : After-shared-slice-known) → (given : s1 (before .before .blocks) .gives (m1 (before .before) (before .shared-slice-known .given))) → Typed.Mo (T t4)
       m4 = λ before given. s3 (before .before .blocks) (m3 before given)
 
-      abbrev pub m5 : (before : After-blanks) → (given : s5 (before .before .before .blocks) .gives (m4 (before .before) (After-blanks·gave before))) → Typed.Mo (T t5)
-      m5 = λ before given. s5 (before .before .before .blocks) .next (m4 (before .before) (After-blanks·gave before)) given
+      abbrev pub m5 : (before : After-blank-table) → (given : s5 (before .before .before .blocks) .gives (m4 (before .before) (After-blank-table·gave before))) → Typed.Mo (T t5)
+      m5 = λ before given. s5 (before .before .before .blocks) .next (m4 (before .before) (After-blank-table·gave before)) given
 
-      module _ (before· : After-blanks) where
+      module _ (before· : After-blank-table) where
         pub record After-table·own : Type 0 where
-          pub given : s5 (before· .before .before .blocks) .gives (m4 (before· .before) (After-blanks·gave before·))
+          pub given : s5 (before· .before .before .blocks) .gives (m4 (before· .before) (After-blank-table·gave before·))
 
       pub record After-table : Type 0 where
-        pub before : After-blanks
+        pub before : After-blank-table
         pub table : After-table·own before
 
       abbrev pub Need-slice-aggregate-read : Type 0
       Need-slice-aggregate-read = (c : After-table) → Relend.CountIs (T t5) 11 12 (λ x. x) (λ u. 1000) (m5 (c .before) (c .table .given))
 
-      abbrev pub m6 : (before : After-blanks) → (given : s5 (before .before .before .blocks) .gives (m4 (before .before) (After-blanks·gave before))) → Typed.Mo (T t6)
+      abbrev pub m6 : (before : After-blank-table) → (given : s5 (before .before .before .blocks) .gives (m4 (before .before) (After-blank-table·gave before))) → Typed.Mo (T t6)
       m6 = λ before given. s6 (before .before .before .blocks) .next (m5 before given)
 
       abbrev pub Need-read-requires : Type 0
@@ -1011,7 +1011,7 @@ module _ (claims· : Claims) where
       Need-returns-2 = (c : After-refused) → Post· (c .before .before .before .before .before .before .before .before .before .κs) (dens (c .before .before .before .before .before .before .before .before .before .κs) (c .before .before .before .before .before .before .before .before .before .args)) (Function.resV r (c .before .before .before .before .before .before .before .before .before .κs) (m38 (c .before) (After-refused·gave c) .0)) (Clauses.atExit (Kinds.endedOf 1 ps r) (c .before .before .before .before .before .before .before .before .before .κs) (dens (c .before .before .before .before .before .before .before .before .before .κs) (c .before .before .before .before .before .before .before .before .before .args)) (Enter.lastsP (c .before .before .before .before .before .before .before .before .before .κs) 1 ps xs (dens (c .before .before .before .before .before .before .before .before .before .κs) (c .before .before .before .before .before .before .before .before .before .args))
           (m38 (c .before) (After-refused·gave c) .1)))
 
-      module _ (blanks-requires : Need-blanks-requires) (slice-aggregate-read : Need-slice-aggregate-read) (read-requires : Need-read-requires) (enum-known-answer : Need-enum-known-answer) (slice-aggregate-nearest-among : Need-slice-aggregate-nearest-among) (nearest-among-requires : Need-nearest-among-requires) (enum-known-answer-2 : Need-enum-known-answer-2) (refused-requires : Need-refused-requires) (returns : Need-returns) (returns-2 : Need-returns-2) where
+      module _ (blank-table-requires : Need-blank-table-requires) (slice-aggregate-read : Need-slice-aggregate-read) (read-requires : Need-read-requires) (enum-known-answer : Need-enum-known-answer) (slice-aggregate-nearest-among : Need-slice-aggregate-nearest-among) (nearest-among-requires : Need-nearest-among-requires) (enum-known-answer-2 : Need-enum-known-answer-2) (refused-requires : Need-refused-requires) (returns : Need-returns) (returns-2 : Need-returns-2) where
         lay4 : (c : After-refused) → at24 (c .before .before .before .before .before .before .before .before .before .blocks) (W0 (c .before .before .before .before .before .before .before .before .before .κs) (c .before .before .before .before .before .before .before .before .before .args) (c .before .before .before .before .before .before .before .before .before .blocks)) (m28 (c .before) (After-refused·gave c))
         lay4 = λ c. ((Path'.refl, (tt, (tt, (tt, tt)))), returns-2 record { before = c .before; refused = c .refused })
 
@@ -1081,16 +1081,16 @@ module _ (claims· : Claims) where
           ),
         )
 
-        lay1 : (c : After-blanks) → at31 (c .before .before .blocks) (W0 (c .before .before .κs) (c .before .before .args) (c .before .before .blocks)) (m2 (c .before) (After-blanks·gave c))
-        lay1 = λ c. λ g. (Relend.count-is (T t5) 11 12 (λ x. x) (λ u. 1000) (m5 record { before = c .before; blanks = c .blanks } g) (slice-aggregate-read record { before = record { before = c .before; blanks = c .blanks }; table = record { given = g } }), (read-requires record { before = record { before = c .before; blanks = c .blanks }; table = record { given = g } }, λ g'. lay2 record { before = record { before = record { before = c .before; blanks = c .blanks }; table = record { given = g } }; read = Called.called ps·1 r·1 (claims· .3) (T t6) (record { pos = 1; ty = S.tyRef (S.named 0) S.imm (S.tyInt S.w8); ref = λ x. x }, (record { pos = 12; ty = S.tyRef S.erased S.mut PlaceKind.named; ref = λ x. x }, tt)) (m6 record { before = c .before; blanks = c .blanks } g) g' }))
+        lay1 : (c : After-blank-table) → at31 (c .before .before .blocks) (W0 (c .before .before .κs) (c .before .before .args) (c .before .before .blocks)) (m2 (c .before) (After-blank-table·gave c))
+        lay1 = λ c. λ g. (Relend.count-is (T t5) 11 12 (λ x. x) (λ u. 1000) (m5 record { before = c .before; blank-table = c .blank-table } g) (slice-aggregate-read record { before = record { before = c .before; blank-table = c .blank-table }; table = record { given = g } }), (read-requires record { before = record { before = c .before; blank-table = c .blank-table }; table = record { given = g } }, λ g'. lay2 record { before = record { before = record { before = c .before; blank-table = c .blank-table }; table = record { given = g } }; read = Called.called ps·1 r·1 (claims· .3) (T t6) (record { pos = 1; ty = S.tyRef (S.named 0) S.imm (S.tyInt S.w8); ref = λ x. x }, (record { pos = 12; ty = S.tyRef S.erased S.mut PlaceKind.named; ref = λ x. x }, tt)) (m6 record { before = c .before; blank-table = c .blank-table } g) g' }))
 
         pub laid : (c : Start) → at33 (c .blocks) (W0 (c .κs) (c .args) (c .blocks)) (m0 (c .κs) (c .args) (c .blocks))
-        laid = λ c. λ g. (blanks-requires record { before = c; shared-slice-known = record { given = g } }, λ g'. lay1 record { before = record { before = c; shared-slice-known = record { given = g } }; blanks = Called.called ps·0 r·0 (claims· .1) (T t0) tt (m1 c g) g' })
+        laid = λ c. λ g. (blank-table-requires record { before = c; shared-slice-known = record { given = g } }, λ g'. lay1 record { before = record { before = c; shared-slice-known = record { given = g } }; blank-table = Called.called ps·0 r·0 (claims· .1) (T t0) tt (m1 c g) g' })
 
         module _ (κs : Lifetimes.Lfts 1) (qs : Lifetimes.Shares 1) where
           pub asked : (a : Kinds.Dens κs ps) → (good : Kinds.GoodsP κs ps a) → (pre : Pre· κs a) → (bs : List Nat.ℕ) → Φ bs (Any.wantQ 1 ps r xs m κs qs a (Post· κs a)) (Function.init 1 ps r xs m κs qs a)
           asked = λ a good pre bs. laid record { κs = κs; args = record { bytes = a .0; x = a .1 .0; y = a .1 .1 .0; reach = a .1 .1 .1 .0 }; blocks = bs; good = good; fits = record { x = record { sfits = good .1 .0 }; y = record { sfits = good .1 .1 .0 }; reach = record { sfits = good .1 .1 .1 .0 } }; pre = pre }
 
-        module _ {M : Type 1} (𝓤 : URA.URA M) (H : Wp.Heap 𝓤) (A : Atoms.Atoms 𝓤) (W : Kit.Given 𝓤 H A) (𝓣 : Wp.Tables 𝓤 H) (known0 : Plain.Known 𝓤 H A W 𝓣 0 ps·0 r·0 (claims· .0) (claims· .1) "lookup::blanks") (known1 : Plain.Known 𝓤 H A W 𝓣 2 ps·1 r·1 (claims· .2) (claims· .3) "atlas::read") (known2 : Plain.Known 𝓤 H A W 𝓣 1 ps·2 r·2 (claims· .4) (claims· .5) "lookup::nearest_among") (known3 : Plain.Known 𝓤 H A W 𝓣 0 ps·3 r·3 (claims· .6) (claims· .7) "lookup::refused") where
+        module _ {M : Type 1} (𝓤 : URA.URA M) (H : Wp.Heap 𝓤) (A : Atoms.Atoms 𝓤) (W : Kit.Given 𝓤 H A) (𝓣 : Wp.Tables 𝓤 H) (known0 : Plain.Known 𝓤 H A W 𝓣 0 ps·0 r·0 (claims· .0) (claims· .1) "lookup::blank_table") (known1 : Plain.Known 𝓤 H A W 𝓣 2 ps·1 r·1 (claims· .2) (claims· .3) "atlas::read") (known2 : Plain.Known 𝓤 H A W 𝓣 1 ps·2 r·2 (claims· .4) (claims· .5) "lookup::nearest_among") (known3 : Plain.Known 𝓤 H A W 𝓣 0 ps·3 r·3 (claims· .6) (claims· .7) "lookup::refused") where
           pub spec : Statement.Triple 𝓤 (Wp.WpFn 𝓤 H (𝓣 .C) (𝓣 .Λ) (Function.fnOf 1 ps r xs m hs body)) (Function.plainOf 𝓤 H A 1 ps r Pre· Post·)
           spec = Plain.t-fn-plain 𝓤 H A W 𝓣 1 ps r xs m hs body (λ κs qs bs. Φ bs) (λ κs qs bs bd. typed κs qs 𝓤 H A W 𝓣 (known0, known1, known2, known3) bs bd) Pre· Post· asked

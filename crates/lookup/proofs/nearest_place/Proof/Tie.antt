@@ -2,9 +2,9 @@
 use Rattle.atlas.proofs.read.Met
 use Rattle.atlas.proofs.Derived.ReadReads as Reads
 use Rattle.atlas.proofs.read.Symbol
-use Rattle.lookup.proofs.blanks.Met as Met'
-use Rattle.lookup.proofs.blanks.Reads as Reads'
-use Rattle.lookup.proofs.blanks.Symbol as Symbol'
+use Rattle.lookup.proofs.blank_table.Met as Met'
+use Rattle.lookup.proofs.blank_table.Reads as Reads'
+use Rattle.lookup.proofs.blank_table.Symbol as Symbol'
 use Rattle.lookup.proofs.nearest_among.Met as Met''
 use Rattle.lookup.proofs.Derived.NearestAmongReads as Reads''
 use Rattle.lookup.proofs.nearest_among.Symbol as Symbol''
@@ -27,8 +27,8 @@ Start = Lts.Start (Reads'.Asked, Reads'.Learnt, Reads.Asked, Reads.Learnt, Reads
 abbrev pub After-shared-slice-known : Type 0
 After-shared-slice-known = Lts.After-shared-slice-known (Reads'.Asked, Reads'.Learnt, Reads.Asked, Reads.Learnt, Reads''.Asked, Reads''.Learnt, Reads'4.Asked, Reads'4.Learnt) Reads'3.Pre Reads'3.Post
 
-abbrev pub After-blanks : Type 0
-After-blanks = Lts.After-blanks (Reads'.Asked, Reads'.Learnt, Reads.Asked, Reads.Learnt, Reads''.Asked, Reads''.Learnt, Reads'4.Asked, Reads'4.Learnt) Reads'3.Pre Reads'3.Post
+abbrev pub After-blank-table : Type 0
+After-blank-table = Lts.After-blank-table (Reads'.Asked, Reads'.Learnt, Reads.Asked, Reads.Learnt, Reads''.Asked, Reads''.Learnt, Reads'4.Asked, Reads'4.Learnt) Reads'3.Pre Reads'3.Post
 
 abbrev pub After-table : Type 0
 After-table = Lts.After-table (Reads'.Asked, Reads'.Learnt, Reads.Asked, Reads.Learnt, Reads''.Asked, Reads''.Learnt, Reads'4.Asked, Reads'4.Learnt) Reads'3.Pre Reads'3.Post
@@ -66,8 +66,8 @@ After-known-told2 = Lts.After-known-told2 (Reads'.Asked, Reads'.Learnt, Reads.As
 abbrev pub After-refused : Type 0
 After-refused = Lts.After-refused (Reads'.Asked, Reads'.Learnt, Reads.Asked, Reads.Learnt, Reads''.Asked, Reads''.Learnt, Reads'4.Asked, Reads'4.Learnt) Reads'3.Pre Reads'3.Post
 
-abbrev pub Need-blanks-requires : Type 0
-Need-blanks-requires = Lts.Need-blanks-requires (Reads'.Asked, Reads'.Learnt, Reads.Asked, Reads.Learnt, Reads''.Asked, Reads''.Learnt, Reads'4.Asked, Reads'4.Learnt) Reads'3.Pre Reads'3.Post
+abbrev pub Need-blank-table-requires : Type 0
+Need-blank-table-requires = Lts.Need-blank-table-requires (Reads'.Asked, Reads'.Learnt, Reads.Asked, Reads.Learnt, Reads''.Asked, Reads''.Learnt, Reads'4.Asked, Reads'4.Learnt) Reads'3.Pre Reads'3.Post
 
 abbrev pub Need-slice-aggregate-read : Type 0
 Need-slice-aggregate-read = Lts.Need-slice-aggregate-read (Reads'.Asked, Reads'.Learnt, Reads.Asked, Reads.Learnt, Reads''.Asked, Reads''.Learnt, Reads'4.Asked, Reads'4.Learnt) Reads'3.Pre Reads'3.Post
@@ -97,10 +97,10 @@ abbrev pub Need-returns-2 : Type 0
 Need-returns-2 = Lts.Need-returns-2 (Reads'.Asked, Reads'.Learnt, Reads.Asked, Reads.Learnt, Reads''.Asked, Reads''.Learnt, Reads'4.Asked, Reads'4.Learnt) Reads'3.Pre Reads'3.Post
 
 module _ {M : Type 1} where
-  pub spec : (answer : Need-blanks-requires) → (answer : Need-slice-aggregate-read) → (answer : Need-read-requires) → (answer : Need-enum-known-answer) → (answer : Need-slice-aggregate-nearest-among) → (answer : Need-nearest-among-requires) → (answer : Need-enum-known-answer-2) → (answer : Need-refused-requires) → (answer : Need-returns) → (answer : Need-returns-2) → Lts.Closed (Reads'.Asked, Reads'.Learnt, Reads.Asked, Reads.Learnt, Reads''.Asked, Reads''.Learnt, Reads'4.Asked, Reads'4.Learnt) Reads'3.Pre Reads'3.Post M
+  pub spec : (answer : Need-blank-table-requires) → (answer : Need-slice-aggregate-read) → (answer : Need-read-requires) → (answer : Need-enum-known-answer) → (answer : Need-slice-aggregate-nearest-among) → (answer : Need-nearest-among-requires) → (answer : Need-enum-known-answer-2) → (answer : Need-refused-requires) → (answer : Need-returns) → (answer : Need-returns-2) → Lts.Closed (Reads'.Asked, Reads'.Learnt, Reads.Asked, Reads.Learnt, Reads''.Asked, Reads''.Learnt, Reads'4.Asked, Reads'4.Learnt) Reads'3.Pre Reads'3.Post M
   spec = λ answer answer' answer'' answer'3 answer'4 answer'5 answer'6 answer'7 answer'8 answer'9. Lts.spec (Reads'.Asked, Reads'.Learnt, Reads.Asked, Reads.Learnt, Reads''.Asked, Reads''.Learnt, Reads'4.Asked, Reads'4.Learnt) Reads'3.Pre Reads'3.Post answer answer' answer'' answer'3 answer'4 answer'5 answer'6 answer'7 answer'8 answer'9
 
   pub close : Lts.Closed (Reads'.Asked, Reads'.Learnt, Reads.Asked, Reads.Learnt, Reads''.Asked, Reads''.Learnt, Reads'4.Asked, Reads'4.Learnt) Reads'3.Pre Reads'3.Post M → Statement.statement M
   unfolding Code.routine Running.tablesOf
-  close = λ closed 𝓤 H 𝓜 𝓖 𝓡. Written.close 1 Kinds.ps Kinds.r Reads'3.Ghost Reads'3.requires Reads'3.ensures Reads'3.pre-read Reads'3.Pinned Reads'3.Owned Reads'3.post-read record { M = M; 𝓤 = 𝓤; H = H; 𝓜 = 𝓜; 𝓖 = 𝓖; 𝓡 = 𝓡 } Code.env Key.name Code.function (Code.unfolded 𝓤 H 𝓜 𝓡) (λ κs a g. tt) (λ κs. Reads'3.owns κs record { M = M; 𝓤 = 𝓤; H = H; 𝓜 = 𝓜; 𝓖 = 𝓖; 𝓡 = 𝓡 }) (Reads'3.passes record { M = M; 𝓤 = 𝓤; H = H; 𝓜 = 𝓜; 𝓖 = 𝓖; 𝓡 = 𝓡 }) λ g. closed 𝓤 H (𝓖 .A) (Running.givenOf 𝓤 H 𝓜 𝓖) (Run.Over 𝓤 H 𝓜 𝓖 𝓡 Code.env) (Reads'.known record { M = M; 𝓤 = 𝓤; H = H; 𝓜 = 𝓜; 𝓖 = 𝓖; 𝓡 = 𝓡 } Code.env Symbol'.name Symbol'.routine Code.calls-lookup·blanks (Met'.met 𝓤 H 𝓜 𝓖 𝓡)) (Reads.known record { M = M; 𝓤 = 𝓤; H = H; 𝓜 = 𝓜; 𝓖 = 𝓖; 𝓡 = 𝓡 } Code.env Symbol.name Symbol.routine Code.calls-atlas·read (Met.met 𝓤 H 𝓜 𝓖 𝓡)) (Reads''.known record { M = M; 𝓤 = 𝓤; H = H; 𝓜 = 𝓜; 𝓖 = 𝓖; 𝓡 = 𝓡 } Code.env Symbol''.name Symbol''.routine Code.calls-lookup·nearest-among (Met''.met 𝓤 H 𝓜 𝓖 𝓡)) (Reads'4.known record
-      { M = M; 𝓤 = 𝓤; H = H; 𝓜 = 𝓜; 𝓖 = 𝓖; 𝓡 = 𝓡 } Code.env Symbol'3.name Symbol'3.routine Code.calls-lookup·refused (Met'3.met 𝓤 H 𝓜 𝓖 𝓡))
+  close = λ closed 𝓤 H 𝓜 𝓖 𝓡. Written.close 1 Kinds.ps Kinds.r Reads'3.Ghost Reads'3.requires Reads'3.ensures Reads'3.pre-read Reads'3.Pinned Reads'3.Owned Reads'3.post-read record { M = M; 𝓤 = 𝓤; H = H; 𝓜 = 𝓜; 𝓖 = 𝓖; 𝓡 = 𝓡 } Code.env Key.name Code.function (Code.unfolded 𝓤 H 𝓜 𝓡) (λ κs a g. tt) (λ κs. Reads'3.owns κs record { M = M; 𝓤 = 𝓤; H = H; 𝓜 = 𝓜; 𝓖 = 𝓖; 𝓡 = 𝓡 }) (Reads'3.passes record { M = M; 𝓤 = 𝓤; H = H; 𝓜 = 𝓜; 𝓖 = 𝓖; 𝓡 = 𝓡 }) λ g. closed 𝓤 H (𝓖 .A) (Running.givenOf 𝓤 H 𝓜 𝓖) (Run.Over 𝓤 H 𝓜 𝓖 𝓡 Code.env) (Reads'.known record { M = M; 𝓤 = 𝓤; H = H; 𝓜 = 𝓜; 𝓖 = 𝓖; 𝓡 = 𝓡 } Code.env Symbol'.name Symbol'.routine Code.calls-lookup·blank-table (Met'.met 𝓤 H 𝓜 𝓖 𝓡)) (Reads.known record { M = M; 𝓤 = 𝓤; H = H; 𝓜 = 𝓜; 𝓖 = 𝓖; 𝓡 = 𝓡 } Code.env Symbol.name Symbol.routine Code.calls-atlas·read (Met.met 𝓤 H 𝓜 𝓖 𝓡)) (Reads''.known record { M = M; 𝓤 = 𝓤; H = H; 𝓜 = 𝓜; 𝓖 = 𝓖; 𝓡 = 𝓡 } Code.env Symbol''.name Symbol''.routine Code.calls-lookup·nearest-among (Met''.met 𝓤 H 𝓜 𝓖 𝓡)) (Reads'4.known
+      record { M = M; 𝓤 = 𝓤; H = H; 𝓜 = 𝓜; 𝓖 = 𝓖; 𝓡 = 𝓡 } Code.env Symbol'3.name Symbol'3.routine Code.calls-lookup·refused (Met'3.met 𝓤 H 𝓜 𝓖 𝓡))
