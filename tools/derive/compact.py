@@ -8,24 +8,23 @@ def balance(s):
 
 def items(text):
     """(indent, text) of each declaration, with its lines joined"""
-    out, stack = [], [0]
+    out, stack, unclosed = [], [0], 0
     for line in text.split('\n'):
-        if not line.strip():
+        n, line = len(line) - len(line.lstrip(' ')), line.strip()
+        if not line:
             continue
-        n = len(line) - len(line.lstrip(' '))
-        if out and balance(out[-1][1]) > 0:
-            out[-1][1] += ' ' + line.strip()
-            continue
-        while n < stack[-1]:
-            stack.pop()
-        opened = out and re.search(r'\bwhere$', out[-1][1])
-        if n == stack[-1]:
-            out.append([n, line.strip()])
-        elif opened:
-            stack.append(n)
-            out.append([n, line.strip()])
-        else:
-            out[-1][1] += ' ' + line.strip()
+        if unclosed <= 0:
+            while n < stack[-1]:
+                stack.pop()
+            opened = out and re.search(r'\bwhere$', out[-1][1])
+            if n > stack[-1] and opened:
+                stack.append(n)
+            if n == stack[-1]:
+                out.append([n, line])
+                unclosed = balance(line)
+                continue
+        out[-1][1] += ' ' + line
+        unclosed += balance(line)
     return out
 
 TOKEN = re.compile(r'"[^"]*"|[(){},;]|[^\s(){},;]+')

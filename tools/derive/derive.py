@@ -49,25 +49,10 @@ def below(listed, crate):
     return found
 
 
-def layers(twin, crate, keep):
-    """The functions in sets, none of which has a function and one that it calls: the derivation of a function wants those that it calls proved."""
-    files = {f: twin.plain(t) for f, t in twin.all[crate].items()}
-    found = functions(files)
-    for f in keep:
-        if f not in found:
-            sys.exit(f"{crate} has no function {f}")
-    calls = {f: [g for g in keep if g != f and re.search(rf"(?<!:)\b{g}\(", files[found[f][0]][found[f][2]:found[f][3]])] for f in keep}
-
-    def depth(f, above=()):
-        if f in above:
-            sys.exit(f"{crate}::{f} calls itself")
-        return 1 + max((depth(g, (*above, f)) for g in calls[f]), default=-1)
-
-    return [[f for f in keep if depth(f) == d] for d in range(1 + max(map(depth, keep)))]
-
-
 def run_twin(twin, crate, keep, listed, folder):
-    """Has the borrow checker write the derivations of the twin; gives the folder that has them, and what was printed."""
+    """Has the borrow checker write the derivations of the twin; gives the folder that has them, and what was printed.
+
+    The twins are passed as source in one run, and none is proved: each function has an empty file for its proof, so that nothing is searched for."""
     deps = below(listed, crate)
     twins = twin.write(crate, keep, deps, listed, folder)
     for part in ("rlib", "stamp", "log"):
@@ -77,13 +62,16 @@ def run_twin(twin, crate, keep, listed, folder):
             os.symlink(root / "crates" / dep, folder / "crates" / dep)
             for file in (f"rlib/{dep}.rlib", f"stamp/{dep}"):
                 os.symlink(root / "target" / file, folder / "target" / file)
-    (folder / "crates.txt").write_text("".join(" ".join([f"{c}:"] + listed[c]) + "\n" for c in deps + [crate]))
-    out = subprocess.run(["rt", "dev", crate, "--generated", str(folder / "generated")], cwd=folder, capture_output=True, text=True)
+    looked_at = {c: listed[c] for c in deps if c not in twins}
+    looked_at[crate] = [c for c in dict.fromkeys(c for t in twins for c in listed[t]) if c not in twins]
+    (folder / "crates.txt").write_text("".join(" ".join([f"{c}:"] + cs) + "\n" for c, cs in looked_at.items()))
+    libs = [word for t in twins if t != crate for word in ("--lib", f"{t}={folder}/crates/{t}/src/lib.rt")]
+    out = subprocess.run(["rt", "dev", crate, "--generated", str(folder / "generated"), *libs], cwd=folder, capture_output=True, text=True)
     return folder / "generated", out.stdout + out.stderr
 
 
-def derive_layer(listed, crate, structs, twin, keep, every, kinds):
-    """[(name in Derived or None, path, text)] of the files that a set of functions wants."""
+def derive_group(listed, crate, structs, twin, keep, every, kinds):
+    """[(name in Derived or None, path, text)] of the files that the functions of a line of functions.txt want."""
     files = []
 
     def module(name, what, text):
@@ -98,8 +86,9 @@ def derive_layer(listed, crate, structs, twin, keep, every, kinds):
                 module(f"{struct}Kind", f"a `{struct}` by value, as a parameter and as a result" + ("." if size == "held" else ", and its name behind a reference."),
                        template.replace("@STRUCT", t.home_of(struct)[1]).replace("@CRATE", crate).replace("@S", struct))
         try:
-            # of a function that they call, and that is proved by a walk, only the reading
-            walked = [f for f in functions(twin.all[crate]) if f not in every and t.has(f)]
+            # of a function that they call, and that is proved by a walk, only the reading; in the order of the calls
+            calls = twin.crate(crate, keep)[1]
+            walked = sorted((f for f in functions(twin.all[crate]) if f not in every and t.has(f)), key=lambda f: calls.index(f"{f}("))
             for f in keep + walked:
                 if t.lent(f):
                     module(f"{camel(f)}Reads", f"the kinds of `{f}`'s parameters and its result, and its contract, read.", t.contract(f))
@@ -142,9 +131,12 @@ def derive(wanted):
         every = [f for _, _, keep in groups[crate] for f in keep]
         for structs, by_value, keep in groups[crate]:
             twin = Twin(root, structs, by_value)
-            jobs += [(crate, structs, twin, layer, every) for layer in layers(twin, crate, keep)]
+            for f in keep:
+                if f not in functions(twin.all[crate]):
+                    sys.exit(f"{crate} has no function {f}")
+            jobs.append((crate, structs, twin, keep, every))
     with concurrent.futures.ThreadPoolExecutor(os.cpu_count()) as pool:
-        done = list(pool.map(lambda j: derive_layer(listed, j[0], j[1], j[2], j[3], j[4], kinds), jobs))
+        done = list(pool.map(lambda j: derive_group(listed, j[0], j[1], j[2], j[3], j[4], kinds), jobs))
     made = {}
     for job, files in zip(jobs, done):
         crate = made.setdefault(job[0], {"Derived.antt": f"{FIRST}what the derivations of the crate's functions share.\n"})

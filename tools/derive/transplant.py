@@ -85,7 +85,8 @@ def parts(text):
 
 def used(head, body):
     """The `use` lines that the body needs."""
-    return [h for h in head if "{" in h or re.search(name_pattern(use(h)[1]) + r"(?![\w'·-])", body)]
+    names = set(re.findall(name_pattern("") + r"[\w'·-]+", body))
+    return [h for h in head if "{" in h or use(h)[1] in names]
 
 
 class Transplant:
@@ -133,7 +134,9 @@ class Transplant:
     def clauses(self, function):
         m = functions(self.source)[function]
         text = self.source[m[0]][m[1]:]
-        return re.match(r".*?\n\{", text, flags=re.S).group(0)
+        head = text[:m[2] - m[1]]
+        # without a contract the first brace is the body's
+        return re.match(r".*?\n\{", text, flags=re.S).group(0) if re.search(r"\n\s+(requires|ensures)\b", head) else head
 
     def file(self, function, what):
         return self.generated / f"Rattle.{self.name}.proofs/proofs" / self.of(function).replace(".", "/") / f"{what}.antt"

@@ -142,7 +142,8 @@ class Twin:
 
     def write(self, crate, keep, deps, listed, to):
         """Writes the twin of a crate, and of the crates below it whose functions over such references it calls, or that look at such a twin.
-        `deps` are the crates below it, each behind those that it looks at itself. Gives the names of the twins."""
+        `deps` are the crates below it, each behind those that it looks at itself. Gives the names of the twins.
+        Each function has an empty proof."""
         files, bodies = self.crate(crate, keep)
         twins = {crate: files}
         for dep in deps:
@@ -153,4 +154,8 @@ class Twin:
             folder.mkdir(parents=True)
             for file, text in texts.items():
                 (folder / file).write_text(text)
+            for f, (file, *_) in functions(texts).items():
+                proof = folder.parent / "proofs" / ("" if file in ("lib.rt", "main.rt") else file[:-3]) / f / "Proof.antt"
+                proof.parent.mkdir(parents=True)
+                proof.write_text("")
         return list(twins)

@@ -2,3 +2,4 @@
 pub mod Hold
 pub mod Read
 pub mod Stored
+pub mod Printed

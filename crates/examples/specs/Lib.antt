@@ -2,3 +2,4 @@
 pub mod Examples
 pub mod Files
 pub mod Tables
+pub mod Printed

@@ -1,0 +1,19 @@
+-- Document 01, 'Two programs': the lister reads an atlas file. It prints `places N`, then a line per place. A refused file prints only
+-- `refused R at B`.
+use mathlib.Core.Bool.{cond}
+use mathlib.Core.List.{List, [], _∷_, _++_}
+use Prim.Native.Nat.{ℕ}
+use lib.Dec.{eqb}
+use Rattle.place.specs.declared.Place.{Place}
+use Rattle.atlas_file.specs.Steps.{mostPlaces}
+use Rattle.atlas_file.specs.Reading.{readReply, placesRead}
+use Rattle.text.specs.Lines.{countLine, placeLine, fileRefusedLine}
+
+abbrev pub placeLines : List Place → List ℕ
+placeLines [] = []
+placeLines (p ∷ ps) = placeLine p ++ placeLines ps
+
+unfoldable pub listingOf : (file : List ℕ) → List ℕ
+listingOf file =
+    let reply = readReply file mostPlaces in
+    cond (eqb (reply .number) 0) (countLine (reply .count) ++ placeLines (placesRead file mostPlaces)) (fileRefusedLine (reply .number) (reply .offset))

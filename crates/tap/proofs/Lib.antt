@@ -1,0 +1,2 @@
+-- What is derived of the program's functions.
+pub mod Derived

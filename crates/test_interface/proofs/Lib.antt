@@ -1,0 +1,2 @@
+-- What is derived of the crate's functions.
+pub mod Derived

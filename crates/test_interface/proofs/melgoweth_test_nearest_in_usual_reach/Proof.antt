@@ -1,0 +1,18 @@
+-- `test_interface::melgoweth_test_nearest_in_usual_reach` is safe and ends. Assumes nothing.
+mod Lts
+mod Tie
+use borrow.Author.Needs.{needs}
+use Rattle.test_interface.proofs.melgoweth_test_nearest_in_usual_reach.Statement.{statement}
+use Rattle.test_interface.proofs.melgoweth_test_nearest_in_usual_reach.Proof.Tie as tie
+
+nearest-in-usual-reach-requires : tie.Need-nearest-in-usual-reach-requires
+nearest-in-usual-reach-requires c κs = search needs
+
+store-position-requires : tie.Need-store-position-requires
+store-position-requires c κs = search needs
+
+returns : tie.Need-returns
+returns c = search needs
+
+pub melgoweth-test-nearest-in-usual-reach-spec : {M : Type 1} → statement M
+melgoweth-test-nearest-in-usual-reach-spec = tie.close (tie.spec nearest-in-usual-reach-requires store-position-requires returns)

@@ -1,0 +1,24 @@
+-- `test_interface::melgoweth_test_write` is safe and ends. Assumes nothing.
+mod Lts
+mod Tie
+use borrow.Author.Needs.{needs}
+use Rattle.test_interface.proofs.melgoweth_test_write.Statement.{statement}
+use Rattle.test_interface.proofs.melgoweth_test_write.Proof.Tie as tie
+
+sheet-of-requires : tie.Need-sheet-of-requires
+sheet-of-requires c κs = search needs
+
+write-requires : tie.Need-write-requires
+write-requires c κs = search needs
+
+store-length-requires : tie.Need-store-length-requires
+store-length-requires c κs = search needs
+
+same-length : tie.Need-same-length
+same-length c = search needs
+
+returns : tie.Need-returns
+returns c = search needs
+
+pub melgoweth-test-write-spec : {M : Type 1} → statement M
+melgoweth-test-write-spec = tie.close (tie.spec sheet-of-requires write-requires store-length-requires same-length returns)

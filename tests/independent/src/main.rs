@@ -1,0 +1,71 @@
+//! Compares the atlas engine with an independent implementation of
+//! document 01: its library through the test interface, its two programs by
+//! running them.
+//!
+//! `independent LISTER TAP` runs all groups; `independent --library-only`
+//! leaves out the programs. The first difference ends the run with status 1.
+
+mod cases;
+mod engine;
+mod exact;
+mod groups;
+mod model;
+mod programs;
+mod tally;
+
+use std::path::PathBuf;
+use std::process::ExitCode;
+
+const USE: &str = "use: independent LISTER TAP | independent --library-only";
+
+fn compare_all(programs: Option<[PathBuf; 2]>) -> groups::Compared {
+    let mut total = groups::examples()?;
+    total += groups::steps_on_one_number()?;
+    total += groups::sheet_checks()?;
+    total += groups::globe_and_map()?;
+    total += groups::exact_values()?;
+    total += groups::steps()?;
+    total += groups::reading()?;
+    total += groups::writing()?;
+    total += groups::taps()?;
+    match programs {
+        Some([lister, tap]) => {
+            total += programs::lister(&lister)?;
+            total += programs::tap(&tap)?;
+        }
+        None => println!("9 lister, 10 tap: left out"),
+    }
+    Ok(total)
+}
+
+fn main() -> ExitCode {
+    let arguments: Vec<String> = std::env::args().skip(1).collect();
+    let arguments: Vec<&str> = arguments.iter().map(String::as_str).collect();
+    let programs = match arguments[..] {
+        ["--library-only"] => None,
+        [lister, tap] => {
+            let full = |path: &str| std::fs::canonicalize(path).map_err(|e| format!("{path}: {e}"));
+            match (full(lister), full(tap)) {
+                (Ok(lister), Ok(tap)) => Some([lister, tap]),
+                (Err(error), _) | (_, Err(error)) => {
+                    eprintln!("{error}");
+                    return ExitCode::from(2);
+                }
+            }
+        }
+        _ => {
+            eprintln!("{USE}");
+            return ExitCode::from(2);
+        }
+    };
+    match compare_all(programs) {
+        Ok(total) => {
+            println!("{total} compared in all, no difference");
+            ExitCode::SUCCESS
+        }
+        Err(difference) => {
+            println!("DIFFERENCE in {difference}");
+            ExitCode::FAILURE
+        }
+    }
+}
