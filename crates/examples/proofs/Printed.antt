@@ -13,13 +13,13 @@ use Rattle.nearest.specs.Taps.{squared, squaredDistance, isBefore, better, best
 use Rattle.atlas_file.specs.Steps.{mostPlaces, refusedStep, stepOf}
 use Rattle.atlas_file.specs.Reading.{Reading, acceptedReading, startOf, readFrom, readOf}
 use Rattle.integrity.proofs.Rooms.{room-enough}
-use Rattle.text.specs.Decimals.{digitsUpTo, decimal, signed, isNumeral, isNumber, numberOf}
+use Rattle.text.specs.Decimals.{digitsUpTo, decimal, signed, isNumeral, isNumber, spelled}
 use Rattle.text.specs.Lines.{countLine, placeLine, fileRefusedLine, foundLine, refusedLine, nothingFoundLine}
 use Rattle.text.specs.TapLines.{hasForm, xOf, yOf, lineRules, lineReply}
 use Rattle.programs.specs.Listing.{placeLines, listingOf}
 use Rattle.programs.specs.Tapping.{nearLine, pointLine, answerTo, answersAfter, tapOutput}
 use Rattle.examples.specs.Files.{mill, millFile}
-use Rattle.examples.specs.Printed.{tap, MillListed, NothingListed, MillTapped}
+use Rattle.examples.specs.Printed.{tap, MillListed, NothingListed, NothingTapped, MillTapped}
 use Rattle.examples.proofs.Read.{mill-read}
 
 read : readOf millFile mostPlaces ≡ acceptedReading 1 sheetA (mill ∷ [])
@@ -42,9 +42,13 @@ pub nothing-listed : NothingListed
 unfolding listingOf fileRefusedLine digitsUpTo decimal refusedStep stepOf startOf readFrom readOf
 nothing-listed = refl
 
+pub nothing-tapped : NothingTapped
+unfolding tapOutput fileRefusedLine digitsUpTo decimal refusedStep stepOf startOf readFrom readOf
+nothing-tapped input = refl
+
 pub mill-tapped : MillTapped
 unfolding tapped tapOutput answerTo pointLine nearLine foundLine refusedLine nothingFoundLine digitsUpTo decimal signed
-    hasForm isNumeral isNumber numberOf xOf yOf lineRules lineReply
+    hasForm isNumeral isNumber spelled xOf yOf lineRules lineReply
     angleOf squareOf seriesOf sineOf cosineOf rootBits rootBelow rounded rootOf
     withinLimits coneAngleOf coneAgrees radiusAgrees constantsAgree sheetRules shifted offsetOf onSheet
     radiusAt notLeft notRight pointOnSheet halved lastLo latitudeOf longitudeOf pointRules

@@ -17,6 +17,10 @@ MillListed =
 abbrev pub NothingListed : Type 0
 NothingListed = listingOf [] ≡ 114 ∷ 101 ∷ 102 ∷ 117 ∷ 115 ∷ 101 ∷ 100 ∷ 32 ∷ 49 ∷ 32 ∷ 97 ∷ 116 ∷ 32 ∷ 48 ∷ 10 ∷ []
 
+-- an `atlas.bin` that cannot be opened counts as empty: the same line and nothing more, whatever the input is
+abbrev pub NothingTapped : Type 0
+NothingTapped = (input : List ℕ) → tapOutput [] input ≡ 114 ∷ 101 ∷ 102 ∷ 117 ∷ 115 ∷ 101 ∷ 100 ∷ 32 ∷ 49 ∷ 32 ∷ 97 ∷ 116 ∷ 32 ∷ 48 ∷ 10 ∷ []
+
 -- With that file, tap `0 1000000` prints `31000000 10000000 7`.
 abbrev pub tap : List ℕ
 tap = 48 ∷ 32 ∷ 49 ∷ 48 ∷ 48 ∷ 48 ∷ 48 ∷ 48 ∷ 48 ∷ 10 ∷ []

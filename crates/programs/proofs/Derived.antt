@@ -3,4 +3,5 @@ pub mod NearestToReads
 pub mod AnswerAtReads
 pub mod AnswerReads
 pub mod FeedReads
+pub mod AnswersReads
 pub mod FinishReads

@@ -52,7 +52,7 @@ tapOutput file input =
     let reply = readReply file mostPlaces in
     cond (eqb (reply .number) 0) (answersAfter (reply .sheet) (placesRead file mostPlaces) [] input) (fileRefusedLine (reply .number) (reply .offset))
 
--- A `Begun` holds the first bytes of a line, up to 25, which are enough (Laws: FedIsAnswered).
+-- A `Begun` holds the first bytes of a line, up to 25, which are enough (Laws: PartsAnswered).
 abbrev pub bytesOf : Begun → List ℕ
 bytesOf g = take (g .«length») (g .«bytes»)
 
@@ -69,6 +69,19 @@ begunAfter g b = cond (eqb b newline) nothingBegun (begunWith g b)
 
 abbrev pub printedAt : Sheet → List Place → Begun → ℕ → List ℕ
 printedAt s ps g b = cond (eqb b newline) (answerTo s ps (bytesOf g)) []
+
+-- a part of the input is read, byte by byte: the same
+abbrev pub begunBy : Begun → (part : List ℕ) → Begun
+begunBy g [] = g
+begunBy g (b ∷ bs) = begunBy (begunAfter g b) bs
+
+abbrev pub printedBy : Sheet → List Place → Begun → (part : List ℕ) → List ℕ
+printedBy s ps g [] = []
+printedBy s ps g (b ∷ bs) = printedAt s ps g b ++ printedBy s ps (begunAfter g b) bs
+
+-- a part has at most so many bytes
+abbrev pub partSize : ℕ
+partSize = 1024
 
 -- the input is at its end: what is printed
 unfoldable pub printedAtEnd : Sheet → List Place → Begun → List ℕ

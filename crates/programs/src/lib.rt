@@ -1,8 +1,8 @@
 // What the two programs print (document 01, 'Two programs'), by what they read: all that the lister prints of a file, and what the tap
-// program prints at each byte of its input.
+// program prints at each part of its input.
 ghost use mathlib.Core.Path.{_≡_};
-ghost use Prim.Native.Nat.{_+_, _≤_};
-ghost use lib.ListN.{length};
+ghost use Prim.Native.Nat.{_+_, _≤_, min};
+ghost use lib.ListN.{length, take};
 ghost use Rattle.little_endian.specs.Numbers.{put};
 ghost use Rattle.atlas_file.specs.Steps.{mostPlaces};
 ghost use Rattle.atlas_file.specs.Reading.{readReply, placesRead};
@@ -10,17 +10,22 @@ ghost use Rattle.atlas.specs.Tables.{AcceptedFile};
 ghost use Rattle.text.specs.Lines.{lineSize, Holds, textOf};
 ghost use Rattle.text.specs.TapLines.{lineReplyOf, lineReply};
 ghost use Rattle.programs.specs.Listing.{placeLines, listingOf};
-ghost use Rattle.programs.specs.Tapping.{nearLine, pointLine, answerTo, bytesOf, nothingBegun, begunWith, begunAfter, printedAt, printedAtEnd};
+ghost use Rattle.programs.specs.Tapping.{nearLine, pointLine, answerTo, bytesOf, nothingBegun, begunWith, begunAfter, begunBy, printedAt, printedBy, printedAtEnd, partSize};
 use atlas_file::FileAnswer;
 use atlas_file::MOST_PLACES;
 use conic::GlobeAnswer;
 use nearest::NearestAnswer;
 use place::Place;
 use sheet::Sheet;
+use text::LINE_SIZE;
 use text::Line;
 use text::LineAnswer;
 
-// All that the lister prints of a file: it stands at the start of the buffer, and its length is the answer. Bytes after it are unchanged.
+// How many bytes of a file the programs read: one more than the longest atlas file has. These decide what is printed.
+pub const FILE_SIZE: usize = 37043;
+
+// All that the lister prints of a file: it stands at the start of the buffer, which has room for 1,001 lines, and its length is the answer.
+// Bytes after it are unchanged.
 pub fn listing(file: &[u8], out: &mut [u8; 65536]) -> usize
     ensures { λ r. ⌜ (r ≡ length (listingOf (now (file .entry)))) × (now (out .exit) ≡ put (now (out .entry)) 0 (listingOf (now (file .entry)))) ⌝ }
 {
@@ -45,7 +50,7 @@ fn put_line(out: &mut [u8], at: usize, line: Line) -> usize
     let bytes = line.bytes;
     let mut from = line.start;
     let mut to = at;
-    while from < 64 {
+    while from < LINE_SIZE {
         out[to] = bytes[from];
         from += 1;
         to += 1;
@@ -86,14 +91,56 @@ pub fn begin() -> Begun
     }
 }
 
-// What comes of a byte of the input: the line that is begun then, and what is printed.
-pub struct Turn {
+// What comes of a part of the input: the line that is begun then, and how many bytes are printed.
+pub struct Answered {
     pub begun: Begun,
-    pub printed: Line,
+    pub length: usize,
+}
+
+// How many bytes of the input are taken at a time. Each may end a line, and the buffer has room for as many answers.
+pub const PART_SIZE: usize = 1024;
+
+// Answers each line that ends in the next part of the input, after the line that is begun. Of a longer part the first PART_SIZE bytes are
+// taken. What is printed stands at the start of the buffer; bytes after it are unchanged.
+pub fn answers(
+    sheet: Sheet,
+    table: &[Place],
+    begun: Begun,
+    input: &[u8],
+    out: &mut [u8; 65536],
+) -> Answered
+    ensures { λ r. ⌜ (r .begun ≡ begunBy begun (take partSize (now (input .entry)))) × (r .length ≡ length (printedBy sheet (now (table .entry)) begun (take partSize (now (input .entry))))) × (now (out .exit) ≡ put (now (out .entry)) 0 (printedBy sheet (now (table .entry)) begun (take partSize (now (input .entry))))) ⌝ }
+{
+    let end = least(input.len(), PART_SIZE);
+    let mut begun = begun;
+    let mut to = 0;
+    let mut k = 0;
+    while k < end {
+        let turn = feed(sheet, table, begun, input[k]);
+        begun = turn.begun;
+        to = put_line(out, to, turn.printed);
+        k += 1;
+    }
+    Answered {
+        begun: begun,
+        length: to,
+    }
+}
+
+fn least(a: usize, b: usize) -> usize
+    ensures { λ r. ⌜ r ≡ min a b ⌝ }
+{
+    if a < b { a } else { b }
+}
+
+// What comes of a byte of the input: the line that is begun then, and what is printed.
+struct Turn {
+    begun: Begun,
+    printed: Line,
 }
 
 // The next byte of the input, after the line that is begun: where it is a newline the line is answered, else nothing is printed.
-pub fn feed(sheet: Sheet, table: &[Place], begun: Begun, byte: u8) -> Turn
+fn feed(sheet: Sheet, table: &[Place], begun: Begun, byte: u8) -> Turn
     ensures { λ r. ⌜ (r .begun ≡ begunAfter begun byte) × Holds (r .printed) (printedAt sheet (now (table .entry)) begun byte) ⌝ }
 {
     if byte == b'\n' {

@@ -7,20 +7,21 @@ use atlas_file::FileAnswer;
 use libc::STDIN_FILENO;
 use libc::STDOUT_FILENO;
 use place::Place;
-use programs::Begun;
+use programs::FILE_SIZE;
+use programs::PART_SIZE;
 use sheet::Sheet;
+use text::LINE_SIZE;
 use text::Line;
 
 fn main() {
-    // one byte more than the longest atlas file: these decide the answer
-    let mut file = [0u8; 37043];
+    let mut file = [0u8; FILE_SIZE];
     let length = read_atlas(&mut file);
     answer_taps(&file[..length]);
 }
 
 // Reads `atlas.bin`; what cannot be opened counts as empty, and a read that fails is its end. It is closed before anything else is read or
 // written, so that it stands in for no standard stream that was closed.
-fn read_atlas(file: &mut [u8; 37043]) -> usize
+fn read_atlas(file: &mut [u8; FILE_SIZE]) -> usize
     ensures { λ r. ⌜ Counts r (now (file .exit)) ⌝ }
 {
     let descriptor = os::open_read(b"atlas.bin");
@@ -60,66 +61,45 @@ fn answer_lines(sheet: Sheet, table: &[Place], count: usize)
     requires { ⌜ count ≤ length (now table) ⌝ }
 {
     let mut begun = programs::begin();
+    let mut text = io::large_buffer();
     let mut reads = u64::MAX;
     while 0 < reads {
-        let mut input = io::buffer();
+        let mut input = [0u8; PART_SIZE];
         let filled = read_some(&mut input);
         if filled == 0 {
             break;
         }
-        let progress = answer_bytes(sheet, table, count, begun, &input[..filled]);
-        if !progress.written {
+        let answered = programs::answers(
+            sheet,
+            &table[..count],
+            begun,
+            &input[..filled],
+            &mut text,
+        );
+        begun = answered.begun;
+        let end = answered.length;
+        let written = io::write_all(STDOUT_FILENO, &text[..end]);
+        if !written {
             return;
         }
-        begun = progress.begun;
         reads -= 1;
     }
     print(programs::finish(sheet, &table[..count], begun));
 }
 
-// Reads what there is of standard input, up to 4,096 bytes; 0 at its end.
-fn read_some(input: &mut [u8; 4096]) -> usize
+// Reads what there is of standard input, up to PART_SIZE bytes; 0 at its end.
+fn read_some(input: &mut [u8; PART_SIZE]) -> usize
     ensures { λ r. ⌜ Counts r (now (input .exit)) ⌝ }
 {
     let got = libc::read(STDIN_FILENO, input);
     io::count(got, input)
 }
 
-// How far the input is answered: the line that is begun, and whether all answers could be written.
-struct Progress {
-    begun: Begun,
-    written: bool,
-}
-
-// Answers the lines that end in a part of the input.
-fn answer_bytes(sheet: Sheet, table: &[Place], count: usize, begun: Begun, input: &[u8]) -> Progress
-    requires { ⌜ count ≤ length (now table) ⌝ }
-{
-    let mut begun = begun;
-    let mut k = 0;
-    while k < input.len() {
-        let turn = programs::feed(sheet, &table[..count], begun, input[k]);
-        begun = turn.begun;
-        let written = print(turn.printed);
-        if !written {
-            return Progress {
-                begun: begun,
-                written: false,
-            };
-        }
-        k += 1;
-    }
-    Progress {
-        begun: begun,
-        written: true,
-    }
-}
-
 // Writes a line, and answers whether it could be written.
 fn print(line: Line) -> bool {
     let bytes = line.bytes;
     let start = line.start;
-    if 64 < start {
+    if LINE_SIZE < start {
         return true;
     }
     io::write_all(STDOUT_FILENO, &bytes[start..])

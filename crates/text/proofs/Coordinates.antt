@@ -15,7 +15,7 @@ use Rattle.refusal.specs.declared.Refusal.the-variants.{OutOfRange}
 use Rattle.refusal.specs.Numbers.{Reply, accepted}
 use Rattle.refusal.specs.Rules.{_else-refuse_, inOrder}
 use Rattle.conic.specs.MapToGlobe.{pointLimit}
-use Rattle.text.specs.Decimals.{minus, isNumeral, isNumber, spelledFrom, numberOf}
+use Rattle.text.specs.Decimals.{minus, isNumeral, isNumber, spelledFrom, spelled}
 use Rattle.text.specs.Lines.{space}
 use Rattle.text.specs.TapLines.{beforeSpace, afterSpace, lineReplyOf}
 use Rattle.text.specs.Coordinates.{valued, unread, coordinateOf, pointOf, sizedCoordinate, tooLarge, numeralOf}
@@ -69,7 +69,7 @@ none-read (b ∷ bs) h = absurd (omega arith)
 
 pub first-read : (bs : List ℕ) → 0 < length bs →
     coordinateOf bs ≡ cond (eqb (getD bs 0 0) minus) (sizedCoordinate true (numeralOf (drop 1 bs))) (sizedCoordinate false (numeralOf bs))
-unfolding coordinateOf isNumber numberOf
+unfolding coordinateOf isNumber spelled
 first-read [] h = absurd (omega arith)
 first-read (b ∷ bs) h = rw (sized-is true bs, sized-is false (b ∷ bs)) (by-first (isNumeral bs) (isNumeral (b ∷ bs)) (negℤ (pos (spelledFrom 0 bs))) (pos (spelledFrom 0 (b ∷ bs))) (eqb b minus))
 

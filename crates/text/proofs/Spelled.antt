@@ -9,7 +9,7 @@ use borrow.Author.Tests.{leb-true, le-leb, lt-ltb, ne-eqb}
 use lib.Dec.{leb}
 use lib.IntN.{pos, negsuc}
 use lib.ListN.{length, length-append}
-use Rattle.text.specs.Decimals.{minus, digit, decimal, signed, isDigit, areDigits, spelledFrom, isNumeral, isNumber, numberOf}
+use Rattle.text.specs.Decimals.{minus, digit, decimal, signed, isDigit, areDigits, spelledFrom, isNumeral, isNumber, spelled}
 use Rattle.text.specs.Laws.{ReadsBack}
 use Rattle.text.proofs.Digits.{by-digits}
 
@@ -49,14 +49,14 @@ pub at-least : (b : ℕ) (bs : List ℕ) → areDigits (b ∷ bs) ≡ true → 4
 at-least b bs e = leb-true 48 b (and-elim-left (leb 48 b) (leb b 57) (and-elim-left (isDigit b) (areDigits bs) e))
 
 -- so it is no minus
-read-digits : {n : ℕ} (ds : List ℕ) → Spell n ds → (isNumber ds ≡ true) × (numberOf ds ≡ pos n)
-unfolding isNumber numberOf
+read-digits : {n : ℕ} (ds : List ℕ) → Spell n ds → (isNumber ds ≡ true) × (spelled ds ≡ pos n)
+unfolding isNumber spelled
 read-digits [] s = absurd (omega (arith, s .some))
 read-digits (b ∷ bs) s =
     let m = ne-eqb b minus (λ q. omega (arith, at-least b bs (s .digits))) in
     (rw m (is-numeral s), rw (m, s .value))
 
 pub reads-back : ReadsBack
-unfolding signed isNumber numberOf
+unfolding signed isNumber spelled
 reads-back (pos n) = read-digits (decimal n) (spell n)
 reads-back (negsuc n) = let s = spell (suc n) in (is-numeral s, rw (s .value))

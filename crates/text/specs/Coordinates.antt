@@ -10,7 +10,7 @@ use Rattle.conic.specs.MapToGlobe.{pointLimit}
 use Rattle.text.specs.declared.LineAnswer.{LineAnswer}
 use Rattle.text.specs.declared.LineAnswer.the-variants.{Point, Refused}
 use Rattle.text.specs.declared.Coordinate.{Coordinate}
-use Rattle.text.specs.Decimals.{isDigit, isNumeral, isNumber, spelledFrom, numberOf}
+use Rattle.text.specs.Decimals.{isDigit, isNumeral, isNumber, spelledFrom, spelled}
 
 -- how a coordinate is read: the number, or that there is none or it is out of range
 abbrev pub valued : ℤ → Coordinate
@@ -20,7 +20,7 @@ abbrev pub unread : Coordinate
 unread = record { «good» = false; «value» = pos 0 }
 
 unfoldable pub coordinateOf : List ℕ → Coordinate
-coordinateOf bs = cond (isNumber bs && sizeUpTo pointLimit (numberOf bs)) (valued (numberOf bs)) unread
+coordinateOf bs = cond (isNumber bs && sizeUpTo pointLimit (spelled bs)) (valued (spelled bs)) unread
 
 abbrev pub pointOf : Coordinate → Coordinate → LineAnswer
 pointOf x y = cond (x .«good» && y .«good») (Point (x .«value») (y .«value»)) (Refused OutOfRange)

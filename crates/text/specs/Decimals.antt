@@ -50,6 +50,6 @@ unfoldable pub isNumber : List ℕ → Bool
 isNumber [] = false
 isNumber (b ∷ bs) = cond (eqb b minus) (isNumeral bs) (isNumeral (b ∷ bs))
 
-unfoldable pub numberOf : List ℕ → ℤ
-numberOf [] = pos 0
-numberOf (b ∷ bs) = cond (eqb b minus) (negℤ (pos (spelledFrom 0 bs))) (pos (spelledFrom 0 (b ∷ bs)))
+unfoldable pub spelled : List ℕ → ℤ
+spelled [] = pos 0
+spelled (b ∷ bs) = cond (eqb b minus) (negℤ (pos (spelledFrom 0 bs))) (pos (spelledFrom 0 (b ∷ bs)))

@@ -9,7 +9,7 @@ use Rattle.refusal.specs.Numbers.{accepted}
 use Rattle.conic.specs.MapToGlobe.{pointInRange}
 use Rattle.text.specs.declared.Line.{Line}
 use Rattle.text.specs.declared.LineAnswer.{LineAnswer}
-use Rattle.text.specs.Decimals.{digit, decimal, signed, isNumber, numberOf}
+use Rattle.text.specs.Decimals.{digit, decimal, signed, isNumber, spelled}
 use Rattle.text.specs.Lines.{space, lineSize, textOf, Holds}
 use Rattle.text.specs.TapLines.{startSize, lineReply, lineReplyOf}
 
@@ -26,7 +26,7 @@ DigitsAtMost = (k n : ℕ) → n < 10 ^ (1 + k) → length (decimal n) ≤ 1 + k
 
 -- a number that is written is read as itself (Spelled)
 abbrev pub ReadsBack : Type 0
-ReadsBack = (z : ℤ) → (isNumber (signed z) ≡ true) × (numberOf (signed z) ≡ z)
+ReadsBack = (z : ℤ) → (isNumber (signed z) ≡ true) × (spelled (signed z) ≡ z)
 
 -- a line that holds a text gives it back, and starts within its bytes (Building)
 abbrev pub HeldText : Type 0

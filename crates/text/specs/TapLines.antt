@@ -11,7 +11,7 @@ use Rattle.refusal.specs.Rules.{Rule, _else-refuse_, inOrder}
 use Rattle.conic.specs.MapToGlobe.{pointInRange}
 use Rattle.text.specs.declared.LineAnswer.{LineAnswer}
 use Rattle.text.specs.declared.LineAnswer.the-variants.{Point, Refused}
-use Rattle.text.specs.Decimals.{isNumber, numberOf}
+use Rattle.text.specs.Decimals.{isNumber, spelled}
 use Rattle.text.specs.Lines.{space}
 
 abbrev pub longestTap : ℕ
@@ -30,10 +30,10 @@ unfoldable pub hasForm : (line : List ℕ) → Bool
 hasForm line = leb (length line) longestTap && isNumber (beforeSpace line) && isNumber (afterSpace line)
 
 unfoldable pub xOf : (line : List ℕ) → ℤ
-xOf line = numberOf (beforeSpace line)
+xOf line = spelled (beforeSpace line)
 
 unfoldable pub yOf : (line : List ℕ) → ℤ
-yOf line = numberOf (afterSpace line)
+yOf line = spelled (afterSpace line)
 
 -- A line of another form gets `refused 12`, and so does a number out of range.
 unfoldable pub lineRules : (line : List ℕ) → List Rule

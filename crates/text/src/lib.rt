@@ -13,9 +13,9 @@ use place::Place;
 use refusal::Refusal;
 
 // How many bytes a line has room for.
-const LINE_SIZE: usize = 64;
+pub const LINE_SIZE: usize = 64;
 
-// A line of up to 64 bytes: those from `start` on.
+// A line of up to LINE_SIZE bytes: those from `start` on.
 pub struct Line {
     pub bytes: [u8; 64],
     pub start: usize,

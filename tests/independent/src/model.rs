@@ -1,4 +1,5 @@
 //! Document 01, "The intended build and its rules", in its own words and order.
+//! What it leaves open is as `docs/DECISIONS.md` has it.
 //!
 //! Whole numbers are 128 bits wide, so that nothing can wrap. Division of
 //! whole numbers in Rust drops the fraction toward zero: it is the document's

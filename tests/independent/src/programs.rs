@@ -605,12 +605,17 @@ pub fn tap(program: &Path) -> Compared {
         t.bytes(&mill_file, &input)?;
     }
     // Long enough a line that its end falls on each place in a buffer
-    for length in [511, 4_096, 8_192, 65_536] {
+    for length in [511, 1_024, 2_048, 4_096, 8_192, 65_536] {
         for off in -2i32..=2 {
             let mut input = vec![b'7'; (length + off) as usize];
             input.extend(b"\n0 1000000\n12 34");
             t.bytes(&mill_file, &input)?;
         }
+    }
+    // The most answers that can come of so many bytes: empty lines, and the
+    // shortest right ones
+    for line in ["\n", "0 0\n", "0 1000000\n"] {
+        t.bytes(&mill_file, line.repeat(5_000).as_bytes())?;
     }
     // Many lines on many atlases
     for round in 0..60 {
