@@ -1,2 +1,3 @@
--- What is derived of the crate's functions.
+-- What the functions store, read back from its bits, and what is derived of them.
 pub mod Derived
+pub mod Bits

@@ -1,13 +1,31 @@
 // The engine's functions for test programs, through the C ABI: the interface of the tests alone, not of users.
 //
-// It is held by running and not by contract: no function says what it answers. That each is safe and ends, for any arguments, is proved.
+// Each says, by the replies of the engine's own contracts, what it gives and what it stores, on refusal too, for any arguments.
 //
 // A sheet is passed as nine numbers, in the order of its record. A function that can refuse gives the refusal's number, 0 where it accepts.
 // Out arrays are overwritten in full, with zeros where there is no value.
+ghost use mathlib.Core.Path.{_≡_};
+ghost use mathlib.Core.List.{[]};
+ghost use lib.ListN.{length};
+ghost use Rattle.refusal.specs.Numbers.{numberOf};
+ghost use Rattle.trig.specs.Trig.{replyOf, angleReply, sineReply, cosineReply, rootReply};
+ghost use Rattle.sheet.specs.Sheets as sheets;
+ghost use Rattle.sheet.specs.Sheets.{checkReply, onSheet};
+ghost use Rattle.conic.specs.Conic.{mapReplyOf, forwardReply};
+ghost use Rattle.conic.specs.MapToGlobe.{globeReplyOf, inverseReply};
+ghost use Rattle.nearest.specs.Taps.{nearestReplyOf, nearestReply, usualReach};
+ghost use Rattle.atlas_file.specs.Steps.{stepReplyOf, stepReply};
+ghost use Rattle.atlas_file.specs.Reading.{fileReplyOf, readReply};
+ghost use Rattle.atlas_file.specs.Writing.{writeReply};
+ghost use Rattle.atlas.specs.Tables.{tableAfter};
+ghost use Rattle.atlas.specs.Buffers.{writeReplyOf, bufferAfter};
+ghost use Rattle.lookup.specs.Lookups.{lookupReplyOf, placeAtReply, nearestPlaceReply};
+ghost use Rattle.test_interface.specs.Stored.{sheetWith, sheetNumbers, stateWith, stateNumbers, placeNumbers, reply, wholes, fileOut, fileOutOf, lookupOut, lookupOutOf, stepOut, stepOutOf};
 use atlas::WriteAnswer;
 use atlas_file::FileAnswer;
 use atlas_file::Found;
 use atlas_file::State;
+use atlas_file::StepAnswer;
 use conic::GlobeAnswer;
 use conic::MapAnswer;
 use lookup::Lookup;
@@ -20,22 +38,30 @@ use sheet::Verdict;
 use trig::Answer;
 
 #[no_mangle]
-pub extern "C" fn melgoweth_test_angle(a: i64, out: &mut [i64; 1]) -> u64 {
+pub extern "C" fn melgoweth_test_angle(a: i64, out: &mut [i64; 1]) -> u64
+    ensures { λ r. ⌜ reply r (now (out .exit)) ≡ angleReply a ⌝ }
+{
     store_value(trig::angle(a), out)
 }
 
 #[no_mangle]
-pub extern "C" fn melgoweth_test_sine(t: i64, out: &mut [i64; 1]) -> u64 {
+pub extern "C" fn melgoweth_test_sine(t: i64, out: &mut [i64; 1]) -> u64
+    ensures { λ r. ⌜ reply r (now (out .exit)) ≡ sineReply t ⌝ }
+{
     store_value(trig::sine(t), out)
 }
 
 #[no_mangle]
-pub extern "C" fn melgoweth_test_cosine(t: i64, out: &mut [i64; 1]) -> u64 {
+pub extern "C" fn melgoweth_test_cosine(t: i64, out: &mut [i64; 1]) -> u64
+    ensures { λ r. ⌜ reply r (now (out .exit)) ≡ cosineReply t ⌝ }
+{
     store_value(trig::cosine(t), out)
 }
 
 #[no_mangle]
-pub extern "C" fn melgoweth_test_root(q: i64, out: &mut [i64; 1]) -> u64 {
+pub extern "C" fn melgoweth_test_root(q: i64, out: &mut [i64; 1]) -> u64
+    ensures { λ r. ⌜ reply r (now (out .exit)) ≡ rootReply q ⌝ }
+{
     store_value(trig::root(q), out)
 }
 
@@ -50,12 +76,10 @@ pub extern "C" fn melgoweth_test_check(
     w: u32,
     n: u32,
     g: i32,
-) -> u64 {
-    let verdict = sheet::check(sheet_of(f1, f2, f0, m0, fs, fn_, w, n, g));
-    match verdict {
-        Verdict::Good => 0,
-        Verdict::Refused(r) => number(r),
-    }
+) -> u64
+    ensures { λ r. ⌜ reply r [] ≡ checkReply (sheetWith f1 f2 f0 m0 fs «fn_» w n g) ⌝ }
+{
+    verdict_number(sheet::check(sheet_of(f1, f2, f0, m0, fs, fn_, w, n, g)))
 }
 
 #[no_mangle]
@@ -71,7 +95,9 @@ pub extern "C" fn melgoweth_test_on_sheet(
     g: i32,
     latitude: i64,
     longitude: i64,
-) -> bool {
+) -> bool
+    ensures { λ r. ⌜ r ≡ onSheet (sheetWith f1 f2 f0 m0 fs «fn_» w n g) latitude longitude ⌝ }
+{
     sheet::on_sheet(
         sheet_of(f1, f2, f0, m0, fs, fn_, w, n, g),
         latitude,
@@ -94,20 +120,15 @@ pub extern "C" fn melgoweth_test_forward(
     latitude: i64,
     longitude: i64,
     out: &mut [i64; 2],
-) -> u64 {
+) -> u64
+    ensures { λ r. ⌜ reply r (now (out .exit)) ≡ forwardReply (sheetWith f1 f2 f0 m0 fs «fn_» w n g) latitude longitude ⌝ }
+{
     let answer = conic::forward(
         sheet_of(f1, f2, f0, m0, fs, fn_, w, n, g),
         latitude,
         longitude,
     );
-    *out = [0; 2];
-    match answer {
-        MapAnswer::Point { x, y } => {
-            *out = [x, y];
-            0
-        }
-        MapAnswer::Refused(r) => number(r),
-    }
+    store_point(answer, out)
 }
 
 // out: latitude, longitude.
@@ -125,19 +146,11 @@ pub extern "C" fn melgoweth_test_inverse(
     x: i64,
     y: i64,
     out: &mut [i64; 2],
-) -> u64 {
+) -> u64
+    ensures { λ r. ⌜ reply r (now (out .exit)) ≡ inverseReply (sheetWith f1 f2 f0 m0 fs «fn_» w n g) x y ⌝ }
+{
     let answer = conic::inverse(sheet_of(f1, f2, f0, m0, fs, fn_, w, n, g), x, y);
-    *out = [0; 2];
-    match answer {
-        GlobeAnswer::Position {
-            latitude,
-            longitude,
-        } => {
-            *out = [latitude, longitude];
-            0
-        }
-        GlobeAnswer::Refused(r) => number(r),
-    }
+    store_globe_position(answer, out)
 }
 
 // numbers: the refusal's offset, the count of places; so in the next two.
@@ -147,7 +160,9 @@ pub extern "C" fn melgoweth_test_read(
     table: &mut [Place],
     numbers: &mut [u64; 2],
     sheet: &mut [i64; 9],
-) -> u64 {
+) -> u64
+    ensures { λ r. ⌜ (fileOut r (now (numbers .exit)) (now (sheet .exit)) ≡ fileOutOf (readReply (now (bytes .entry)) (length (now (table .entry))))) × (now (table .exit) ≡ tableAfter (now (bytes .entry)) (now (table .entry))) ⌝ }
+{
     let answer = atlas::read(bytes, table);
     store_file(answer, numbers, sheet)
 }
@@ -158,7 +173,9 @@ pub extern "C" fn melgoweth_test_read_through(
     room: usize,
     numbers: &mut [u64; 2],
     sheet: &mut [i64; 9],
-) -> u64 {
+) -> u64
+    ensures { λ r. ⌜ fileOut r (now (numbers .exit)) (now (sheet .exit)) ≡ fileOutOf (readReply (now (bytes .entry)) room) ⌝ }
+{
     store_file(atlas_file::read_through(bytes, room), numbers, sheet)
 }
 
@@ -168,7 +185,9 @@ pub extern "C" fn melgoweth_test_run(
     room: usize,
     numbers: &mut [u64; 2],
     sheet: &mut [i64; 9],
-) -> u64 {
+) -> u64
+    ensures { λ r. ⌜ fileOut r (now (numbers .exit)) (now (sheet .exit)) ≡ fileOutOf (readReply (now (bytes .entry)) room) ⌝ }
+{
     store_file(reader::run(bytes, room), numbers, sheet)
 }
 
@@ -197,7 +216,9 @@ pub extern "C" fn melgoweth_test_step(
     name: &mut [u8; 16],
     next: &mut [u64; 5],
     next_sheet: &mut [i64; 9],
-) -> u64 {
+) -> u64
+    ensures { λ r. ⌜ stepOut r (now («record» .exit)) (now (sheet .exit)) (now (place .exit)) (now (name .exit)) (now (next .exit)) (now («next_sheet» .exit)) ≡ stepOutOf (stepReply (now (bytes .entry)) (stateWith at «sheet_read» (sheetWith f1 f2 f0 m0 fs «fn_» w n g) count «last_id» room)) ⌝ }
+{
     let state = State {
         at: at,
         sheet_read: sheet_read,
@@ -207,10 +228,7 @@ pub extern "C" fn melgoweth_test_step(
         room: room,
     };
     let answer = atlas_file::step(bytes, state);
-    let found = answer.found;
-    store_place(answer.place, place, name);
-    store_state(answer.next, next, next_sheet);
-    store_found(found, record, sheet)
+    store_step(answer, record, sheet, place, name, next, next_sheet)
 }
 
 // out: the position; so in the next.
@@ -221,7 +239,9 @@ pub extern "C" fn melgoweth_test_nearest(
     y: i64,
     reach: i64,
     out: &mut [u64; 1],
-) -> u64 {
+) -> u64
+    ensures { λ r. ⌜ reply r (wholes (now (out .exit))) ≡ nearestReply (now (table .entry)) x y reach ⌝ }
+{
     let answer = nearest::nearest(table, x, y, reach);
     store_position(answer, out)
 }
@@ -232,7 +252,9 @@ pub extern "C" fn melgoweth_test_nearest_in_usual_reach(
     x: i64,
     y: i64,
     out: &mut [u64; 1],
-) -> u64 {
+) -> u64
+    ensures { λ r. ⌜ reply r (wholes (now (out .exit))) ≡ nearestReply (now (table .entry)) x y usualReach ⌝ }
+{
     let answer = nearest::nearest_in_usual_reach(table, x, y);
     store_position(answer, out)
 }
@@ -252,7 +274,9 @@ pub extern "C" fn melgoweth_test_write(
     table: &[Place],
     buffer: &mut [u8],
     out: &mut [u64; 1],
-) -> u64 {
+) -> u64
+    ensures { λ r. ⌜ (reply r (wholes (now (out .exit))) ≡ writeReply (sheetWith f1 f2 f0 m0 fs «fn_» w n g) (now (table .entry)) (length (now (buffer .entry)))) × (now (buffer .exit) ≡ bufferAfter (sheetWith f1 f2 f0 m0 fs «fn_» w n g) (now (table .entry)) (now (buffer .entry))) ⌝ }
+{
     let sheet = sheet_of(f1, f2, f0, m0, fs, fn_, w, n, g);
     let answer = atlas::write(sheet, table, buffer);
     store_length(answer, out)
@@ -266,7 +290,9 @@ pub extern "C" fn melgoweth_test_place_at(
     numbers: &mut [u64; 2],
     place: &mut [i64; 5],
     name: &mut [u8; 16],
-) -> u64 {
+) -> u64
+    ensures { λ r. ⌜ lookupOut r (now (numbers .exit)) (now (place .exit)) (now (name .exit)) ≡ lookupOutOf (placeAtReply (now (bytes .entry)) position) ⌝ }
+{
     store_lookup(lookup::place_at(bytes, position), numbers, place, name)
 }
 
@@ -279,7 +305,9 @@ pub extern "C" fn melgoweth_test_nearest_place(
     numbers: &mut [u64; 2],
     place: &mut [i64; 5],
     name: &mut [u8; 16],
-) -> u64 {
+) -> u64
+    ensures { λ r. ⌜ lookupOut r (now (numbers .exit)) (now (place .exit)) (now (name .exit)) ≡ lookupOutOf (nearestPlaceReply (now (bytes .entry)) x y reach) ⌝ }
+{
     store_lookup(
         lookup::nearest_place(bytes, x, y, reach),
         numbers,
@@ -288,25 +316,30 @@ pub extern "C" fn melgoweth_test_nearest_place(
     )
 }
 
-fn number(r: Refusal) -> u64 {
+fn number(r: Refusal) -> u64
+    ensures { λ n. ⌜ n ≡ numberOf r ⌝ }
+{
     refusal::number(r) as u64
 }
 
-fn wide(a: i32) -> i64 {
+fn verdict_number(verdict: Verdict) -> u64
+    ensures { λ r. ⌜ reply r [] ≡ sheets.replyOf verdict ⌝ }
+{
+    match verdict {
+        Verdict::Good => 0,
+        Verdict::Refused(r) => number(r),
+    }
+}
+
+fn wide(a: i32) -> i64
+    ensures { λ r. ⌜ r ≡ a ⌝ }
+{
     a as i64
 }
 
-fn sheet_of(
-    f1: i32,
-    f2: i32,
-    f0: i32,
-    m0: i32,
-    fs: i32,
-    fn_: i32,
-    w: u32,
-    n: u32,
-    g: i32,
-) -> Sheet {
+fn sheet_of(f1: i32, f2: i32, f0: i32, m0: i32, fs: i32, fn_: i32, w: u32, n: u32, g: i32) -> Sheet
+    ensures { λ r. ⌜ r ≡ sheetWith f1 f2 f0 m0 fs «fn_» w n g ⌝ }
+{
     Sheet {
         first_parallel: f1,
         second_parallel: f2,
@@ -322,18 +355,57 @@ fn sheet_of(
 
 // The functions that follow store an answer in out arrays, or a part of one; of an answer they give the refusal's number.
 
-fn store_value(answer: Answer, out: &mut [i64; 1]) -> u64 {
-    *out = [0];
+fn store_value(answer: Answer, out: &mut [i64; 1]) -> u64
+    ensures { λ r. ⌜ reply r (now (out .exit)) ≡ replyOf answer ⌝ }
+{
     match answer {
         Answer::Value(v) => {
-            out[0] = v;
+            *out = [v];
             0
         }
-        Answer::Refused(r) => number(r),
+        Answer::Refused(r) => {
+            *out = [0];
+            number(r)
+        }
     }
 }
 
-fn store_sheet(sheet: Sheet, out: &mut [i64; 9]) {
+fn store_point(answer: MapAnswer, out: &mut [i64; 2]) -> u64
+    ensures { λ r. ⌜ reply r (now (out .exit)) ≡ mapReplyOf answer ⌝ }
+{
+    match answer {
+        MapAnswer::Point { x, y } => {
+            *out = [x, y];
+            0
+        }
+        MapAnswer::Refused(r) => {
+            *out = [0, 0];
+            number(r)
+        }
+    }
+}
+
+fn store_globe_position(answer: GlobeAnswer, out: &mut [i64; 2]) -> u64
+    ensures { λ r. ⌜ reply r (now (out .exit)) ≡ globeReplyOf answer ⌝ }
+{
+    match answer {
+        GlobeAnswer::Position {
+            latitude,
+            longitude,
+        } => {
+            *out = [latitude, longitude];
+            0
+        }
+        GlobeAnswer::Refused(r) => {
+            *out = [0, 0];
+            number(r)
+        }
+    }
+}
+
+fn store_sheet(sheet: Sheet, out: &mut [i64; 9])
+    ensures { λ _. ⌜ now (out .exit) ≡ sheetNumbers sheet ⌝ }
+{
     *out = [
         wide(sheet.first_parallel),
         wide(sheet.second_parallel),
@@ -347,7 +419,9 @@ fn store_sheet(sheet: Sheet, out: &mut [i64; 9]) {
     ];
 }
 
-fn store_place(place: Place, out: &mut [i64; 5], name: &mut [u8; 16]) {
+fn store_place(place: Place, out: &mut [i64; 5], name: &mut [u8; 16])
+    ensures { λ _. ⌜ (now (out .exit) ≡ placeNumbers place) × (now (name .exit) ≡ place .name) ⌝ }
+{
     *out = [
         place.id as i64,
         wide(place.latitude),
@@ -359,7 +433,9 @@ fn store_place(place: Place, out: &mut [i64; 5], name: &mut [u8; 16]) {
     *name = bytes;
 }
 
-fn store_file(answer: FileAnswer, numbers: &mut [u64; 2], out: &mut [i64; 9]) -> u64 {
+fn store_file(answer: FileAnswer, numbers: &mut [u64; 2], out: &mut [i64; 9]) -> u64
+    ensures { λ r. ⌜ fileOut r (now (numbers .exit)) (now (out .exit)) ≡ fileOutOf (fileReplyOf answer) ⌝ }
+{
     match answer {
         FileAnswer::Atlas { count, sheet } => {
             *numbers = [0, count as u64];
@@ -374,29 +450,50 @@ fn store_file(answer: FileAnswer, numbers: &mut [u64; 2], out: &mut [i64; 9]) ->
     }
 }
 
-fn store_found(found: Found, record: &mut [u64; 3], out: &mut [i64; 9]) -> u64 {
-    let mut sheet = sheet::blank();
-    let mut refused = 0;
+fn store_step(
+    answer: StepAnswer,
+    record: &mut [u64; 3],
+    sheet: &mut [i64; 9],
+    place: &mut [i64; 5],
+    name: &mut [u8; 16],
+    next: &mut [u64; 5],
+    next_sheet: &mut [i64; 9],
+) -> u64
+    ensures { λ r. ⌜ stepOut r (now («record» .exit)) (now (sheet .exit)) (now (place .exit)) (now (name .exit)) (now (next .exit)) (now («next_sheet» .exit)) ≡ stepOutOf (stepReplyOf answer) ⌝ }
+{
+    let found = answer.found;
+    store_place(answer.place, place, name);
+    store_state(answer.next, next, next_sheet);
     match found {
         Found::Sheet(s) => {
             *record = [0, 1, 0];
-            sheet = s;
+            store_sheet(s, sheet);
+            0
         }
-        Found::Place => *record = [0, 2, 0],
-        Found::End { count } => *record = [0, 3, count as u64],
+        Found::Place => {
+            *record = [0, 2, 0];
+            store_sheet(sheet::blank(), sheet);
+            0
+        }
+        Found::End { count } => {
+            *record = [0, 3, count as u64];
+            store_sheet(sheet::blank(), sheet);
+            0
+        }
         Found::Refused { refusal, offset } => {
             *record = [offset as u64, 0, 0];
-            refused = number(refusal);
+            store_sheet(sheet::blank(), sheet);
+            number(refusal)
         }
     }
-    store_sheet(sheet, out);
-    refused
 }
 
-fn store_state(state: State, out: &mut [u64; 5], sheet: &mut [i64; 9]) {
+fn store_state(state: State, out: &mut [u64; 5], sheet: &mut [i64; 9])
+    ensures { λ _. ⌜ (now (out .exit) ≡ stateNumbers state) × (now (sheet .exit) ≡ sheetNumbers (state .sheet)) ⌝ }
+{
     *out = [
         state.at as u64,
-        if state.sheet_read { 1 } else { 0 },
+        state.sheet_read as u64,
         state.count as u64,
         state.last_id as u64,
         state.room as u64,
@@ -404,25 +501,33 @@ fn store_state(state: State, out: &mut [u64; 5], sheet: &mut [i64; 9]) {
     store_sheet(state.sheet, sheet);
 }
 
-fn store_position(answer: NearestAnswer, out: &mut [u64; 1]) -> u64 {
-    *out = [0];
+fn store_position(answer: NearestAnswer, out: &mut [u64; 1]) -> u64
+    ensures { λ r. ⌜ reply r (wholes (now (out .exit))) ≡ nearestReplyOf answer ⌝ }
+{
     match answer {
         NearestAnswer::At { position } => {
-            out[0] = position as u64;
+            *out = [position as u64];
             0
         }
-        NearestAnswer::Refused(r) => number(r),
+        NearestAnswer::Refused(r) => {
+            *out = [0];
+            number(r)
+        }
     }
 }
 
-fn store_length(answer: WriteAnswer, out: &mut [u64; 1]) -> u64 {
-    *out = [0];
+fn store_length(answer: WriteAnswer, out: &mut [u64; 1]) -> u64
+    ensures { λ r. ⌜ reply r (wholes (now (out .exit))) ≡ writeReplyOf answer ⌝ }
+{
     match answer {
         WriteAnswer::Written { length } => {
-            out[0] = length as u64;
+            *out = [length as u64];
             0
         }
-        WriteAnswer::Refused(r) => number(r),
+        WriteAnswer::Refused(r) => {
+            *out = [0];
+            number(r)
+        }
     }
 }
 
@@ -431,7 +536,9 @@ fn store_lookup(
     numbers: &mut [u64; 2],
     place: &mut [i64; 5],
     name: &mut [u8; 16],
-) -> u64 {
+) -> u64
+    ensures { λ r. ⌜ lookupOut r (now (numbers .exit)) (now (place .exit)) (now (name .exit)) ≡ lookupOutOf (lookupReplyOf answer) ⌝ }
+{
     let found = answer.found;
     store_place(answer.place, place, name);
     match found {

@@ -1,0 +1,2 @@
+-- What the functions give and store.
+pub mod Stored
