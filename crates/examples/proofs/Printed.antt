@@ -43,7 +43,7 @@ unfolding listingOf fileRefusedLine digitsUpTo decimal refusedStep stepOf startO
 nothing-listed = refl
 
 pub nothing-tapped : NothingTapped
-unfolding tapOutput fileRefusedLine digitsUpTo decimal refusedStep stepOf startOf readFrom readOf
+unfolding tapOutput listingOf fileRefusedLine digitsUpTo decimal refusedStep stepOf startOf readFrom readOf
 nothing-tapped input = refl
 
 pub mill-tapped : MillTapped

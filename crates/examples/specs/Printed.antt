@@ -1,4 +1,4 @@
--- Document 01, 'Examples on both sides', cases 11 and 12: what the programs print.
+-- Document 01, 'Examples on both sides', cases 11 and 12: what the programs print, also of an empty file.
 use Prim.Native.Nat.{ℕ}
 use mathlib.Core.Path.{_≡_}
 use mathlib.Core.List.{List, [], _∷_}
@@ -19,7 +19,7 @@ NothingListed = listingOf [] ≡ 114 ∷ 101 ∷ 102 ∷ 117 ∷ 115 ∷ 101 ∷
 
 -- an `atlas.bin` that cannot be opened counts as empty: the same line and nothing more, whatever the input is
 abbrev pub NothingTapped : Type 0
-NothingTapped = (input : List ℕ) → tapOutput [] input ≡ 114 ∷ 101 ∷ 102 ∷ 117 ∷ 115 ∷ 101 ∷ 100 ∷ 32 ∷ 49 ∷ 32 ∷ 97 ∷ 116 ∷ 32 ∷ 48 ∷ 10 ∷ []
+NothingTapped = (input : List ℕ) → tapOutput [] input ≡ listingOf []
 
 -- With that file, tap `0 1000000` prints `31000000 10000000 7`.
 abbrev pub tap : List ℕ

@@ -18,7 +18,7 @@ use Rattle.text.specs.TapLines.{startSize}
 use Rattle.text.proofs.ByTest.{by-test}
 use Rattle.text.proofs.TapLaws.{first-bytes-tell}
 use Rattle.programs.specs.declared.Begun.{Begun}
-use Rattle.programs.specs.Tapping.{answerTo, answersAfter, tapOutput, bytesOf, nothingBegun, begunWith, begunAfter, begunBy, printedAt, printedBy, printedAtEnd, partSize}
+use Rattle.programs.specs.Tapping.{answerTo, answersAfter, tapOutput, bytesOf, nothingBegun, begunWith, begunAfter, begunBy, printedAt, printedBy, printedAtEnd, partSize, taken}
 use Rattle.programs.specs.Laws.{printedInParts, PartsAnswered, TapAnswered}
 
 -- the first bytes of a line are kept
@@ -74,20 +74,20 @@ module _ (s : Sheet) (ps : List Place) where
   parts-after g line (part ∷ parts) h = part-after g line part (flatten parts) _ h (λ next k. parts-after (begunBy g part) next parts k)
 
 -- a byte of a part, and those after it
-module _ (g : Begun) (input : List ℕ) (k : ℕ) (h : k < length (take partSize input)) where
+module _ (g : Begun) (input : List ℕ) (k : ℕ) (h : k < length (taken input)) where
   abbrev byte : ℕ
   byte = getD input k 0
 
   abbrev rest : List ℕ
-  rest = drop (k + 1) (take partSize input)
+  rest = drop (k + 1) (taken input)
 
-  turned : drop k (take partSize input) ≡ byte ∷ rest
-  turned = rw (← (getD-take partSize input k 0 (omega (arith, length-take partSize input))), add-one k) (drop-cons (take partSize input) k 0 h)
+  turned : drop k (taken input) ≡ byte ∷ rest
+  turned = rw (← (getD-take partSize input k 0 (omega (arith, length-take partSize input))), add-one k) (drop-cons (taken input) k 0 h)
 
-  pub begun-turn : begunBy g (drop k (take partSize input)) ≡ begunBy (begunAfter g byte) rest
+  pub begun-turn : begunBy g (drop k (taken input)) ≡ begunBy (begunAfter g byte) rest
   begun-turn = ap (begunBy g) turned
 
-  pub printed-turn : (s : Sheet) (ps : List Place) → printedBy s ps g (drop k (take partSize input)) ≡ printedAt s ps g byte ++ printedBy s ps (begunAfter g byte) rest
+  pub printed-turn : (s : Sheet) (ps : List Place) → printedBy s ps g (drop k (taken input)) ≡ printedAt s ps g byte ++ printedBy s ps (begunAfter g byte) rest
   printed-turn s ps = ap (printedBy s ps g) turned
 
 pub parts-answered : PartsAnswered

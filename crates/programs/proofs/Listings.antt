@@ -11,12 +11,12 @@ use Rattle.place.specs.Places.{blankPlace}
 use Rattle.little_endian.specs.Numbers.{put}
 use Rattle.little_endian.proofs.Puts.{put-append}
 use Rattle.text.specs.Lines.{placeLine}
-use Rattle.programs.specs.Listing.{placeLines}
+use Rattle.programs.specs.Listing.{Stands, placeLines}
 
--- a buffer is as long as what is put at its start, or longer
-pub put-room : (l vs : List ℕ) → length vs ≤ length (put l 0 vs)
+-- a text that stands at the start of a buffer ends within it
+pub stands-within : (text before : List ℕ) {after : List ℕ} {end : ℕ} → Stands 0 text end before after → end ≤ length after
 unfolding put
-put-room l vs = rw (length-append vs (drop (0 + length vs) l)) (omega arith)
+stands-within text before h = rw (h .1) (omega (arith, h .0, length-append text (drop (0 + length text) before)))
 
 module _ (ps : List Place) (k : ℕ) (h : k < length ps) where
   abbrev next : List ℕ

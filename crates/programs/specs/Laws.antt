@@ -28,8 +28,8 @@ printedInParts s ps g (part ∷ parts) = printedBy s ps g part ++ printedInParts
 abbrev pub PartsAnswered : Type 0
 PartsAnswered = (s : Sheet) (ps : List Place) (parts : List (List ℕ)) → printedInParts s ps nothingBegun parts ≡ answersAfter s ps [] (flatten parts)
 
--- so an accepted `atlas.bin` that is read into a table of 1,000 entries, and the input answered by the first of them, print what the tap program is to
--- print (Answering)
+-- so what is printed by the first entries of a table of 1,000, as many as an accepted `atlas.bin` that was read into it has places, is what the tap
+-- program is to print (Answering)
 abbrev pub TapAnswered : Type 0
 TapAnswered = (file : List ℕ) (table : List Place) (parts : List (List ℕ)) → length table ≡ mostPlaces →
     let reply = readReply file (length table) in

@@ -2,12 +2,19 @@
 -- `refused R at B`.
 use mathlib.Core.Bool.{cond}
 use mathlib.Core.List.{List, [], _∷_, _++_}
-use Prim.Native.Nat.{ℕ}
+use mathlib.Core.Path.{_≡_}
+use Prim.Native.Nat.{ℕ, _+_}
 use lib.Dec.{eqb}
+use lib.ListN.{length}
+use Rattle.little_endian.specs.Numbers.{put}
 use Rattle.place.specs.declared.Place.{Place}
 use Rattle.atlas_file.specs.Steps.{mostPlaces}
 use Rattle.atlas_file.specs.Reading.{readReply, placesRead}
 use Rattle.text.specs.Lines.{countLine, placeLine, fileRefusedLine}
+
+-- a text stands in a buffer from `at` on, up to `end`; the other bytes are as they were
+abbrev pub Stands : (at : ℕ) (text : List ℕ) (end : ℕ) (before after : List ℕ) → Type 0
+Stands at text end before after = (end ≡ at + length text) × (after ≡ put before at text)
 
 abbrev pub placeLines : List Place → List ℕ
 placeLines [] = []

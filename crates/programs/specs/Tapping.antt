@@ -79,9 +79,12 @@ abbrev pub printedBy : Sheet → List Place → Begun → (part : List ℕ) → 
 printedBy s ps g [] = []
 printedBy s ps g (b ∷ bs) = printedAt s ps g b ++ printedBy s ps (begunAfter g b) bs
 
--- a part has at most so many bytes
+-- so many bytes of a part are taken at most
 abbrev pub partSize : ℕ
 partSize = 1024
+
+abbrev pub taken : (part : List ℕ) → List ℕ
+taken part = take partSize part
 
 -- the input is at its end: what is printed
 unfoldable pub printedAtEnd : Sheet → List Place → Begun → List ℕ

@@ -2,15 +2,15 @@
 // program prints at each part of its input.
 ghost use mathlib.Core.Path.{_≡_};
 ghost use Prim.Native.Nat.{_+_, _≤_, min};
-ghost use lib.ListN.{length, take};
-ghost use Rattle.little_endian.specs.Numbers.{put};
+ghost use lib.ListN.{length};
 ghost use Rattle.atlas_file.specs.Steps.{mostPlaces};
 ghost use Rattle.atlas_file.specs.Reading.{readReply, placesRead};
+ghost use Rattle.integrity.specs.Integrity.{longestFile};
 ghost use Rattle.atlas.specs.Tables.{AcceptedFile};
 ghost use Rattle.text.specs.Lines.{lineSize, Holds, textOf};
 ghost use Rattle.text.specs.TapLines.{lineReplyOf, lineReply};
-ghost use Rattle.programs.specs.Listing.{placeLines, listingOf};
-ghost use Rattle.programs.specs.Tapping.{nearLine, pointLine, answerTo, bytesOf, nothingBegun, begunWith, begunAfter, begunBy, printedAt, printedBy, printedAtEnd, partSize};
+ghost use Rattle.programs.specs.Listing.{Stands, placeLines, listingOf};
+ghost use Rattle.programs.specs.Tapping.{nearLine, pointLine, answerTo, bytesOf, nothingBegun, begunWith, begunAfter, begunBy, printedAt, printedBy, printedAtEnd, taken};
 use atlas_file::FileAnswer;
 use atlas_file::MOST_PLACES;
 use conic::GlobeAnswer;
@@ -24,10 +24,17 @@ use text::LineAnswer;
 // How many bytes of a file the programs read: one more than the longest atlas file has. These decide what is printed.
 pub const FILE_SIZE: usize = 37043;
 
+// That number, held against the longest file.
+pub fn file_size() -> usize
+    ensures { λ r. ⌜ r ≡ 1 + longestFile ⌝ }
+{
+    FILE_SIZE
+}
+
 // All that the lister prints of a file: it stands at the start of the buffer, which has room for 1,001 lines, and its length is the answer.
 // Bytes after it are unchanged.
 pub fn listing(file: &[u8], out: &mut [u8; 65536]) -> usize
-    ensures { λ r. ⌜ (r ≡ length (listingOf (now (file .entry)))) × (now (out .exit) ≡ put (now (out .entry)) 0 (listingOf (now (file .entry)))) ⌝ }
+    ensures { λ r. ⌜ Stands 0 (listingOf (now (file .entry))) r (now (out .entry)) (now (out .exit)) ⌝ }
 {
     let answer = atlas_file::read_through(file, MOST_PLACES);
     match answer {
@@ -45,7 +52,7 @@ pub fn listing(file: &[u8], out: &mut [u8; 65536]) -> usize
 // Writes a line into a buffer from `at` on, and answers where it ends.
 fn put_line(out: &mut [u8], at: usize, line: Line) -> usize
     requires { ⌜ at + lineSize ≤ length (now out) ⌝ }
-    ensures { λ r. ⌜ (r ≡ at + length (textOf line)) × (now (out .exit) ≡ put (now (out .entry)) at (textOf line)) ⌝ }
+    ensures { λ r. ⌜ Stands at (textOf line) r (now (out .entry)) (now (out .exit)) ⌝ }
 {
     let bytes = line.bytes;
     let mut from = line.start;
@@ -61,7 +68,7 @@ fn put_line(out: &mut [u8], at: usize, line: Line) -> usize
 // The lines of the places of an accepted file whose first place's record starts at `first`.
 fn put_places(out: &mut [u8], at: usize, file: &[u8], first: usize, count: usize) -> usize
     requires { ⌜ (at + 64000 ≤ length (now out)) × AcceptedFile (now file) mostPlaces first × (count ≡ readReply (now file) mostPlaces .count) ⌝ }
-    ensures { λ r. ⌜ (r ≡ at + length (placeLines (placesRead (now (file .entry)) mostPlaces))) × (now (out .exit) ≡ put (now (out .entry)) at (placeLines (placesRead (now (file .entry)) mostPlaces))) ⌝ }
+    ensures { λ r. ⌜ Stands at (placeLines (placesRead (now (file .entry)) mostPlaces)) r (now (out .entry)) (now (out .exit)) ⌝ }
 {
     let mut to = at;
     let mut k = 0;
@@ -73,20 +80,21 @@ fn put_places(out: &mut [u8], at: usize, file: &[u8], first: usize, count: usize
     to
 }
 
-// The first bytes of a line of taps, as far as it is read: up to 25, which are enough to tell what it is.
+// So many bytes of a line are enough to tell what it is: one more than the longest tap has.
+pub const BEGUN_SIZE: usize = 25;
+
+// The first bytes of a line of taps, as far as it is read, up to BEGUN_SIZE.
 pub struct Begun {
-    pub bytes: [u8; 25],
+    pub bytes: [u8; BEGUN_SIZE],
     pub length: usize,
 }
-
-const BEGUN_SIZE: usize = 25;
 
 // A line of which nothing is read.
 pub fn begin() -> Begun
     ensures { λ r. ⌜ r ≡ nothingBegun ⌝ }
 {
     Begun {
-        bytes: [0; 25],
+        bytes: [0; BEGUN_SIZE],
         length: 0,
     }
 }
@@ -109,7 +117,7 @@ pub fn answers(
     input: &[u8],
     out: &mut [u8; 65536],
 ) -> Answered
-    ensures { λ r. ⌜ (r .begun ≡ begunBy begun (take partSize (now (input .entry)))) × (r .length ≡ length (printedBy sheet (now (table .entry)) begun (take partSize (now (input .entry))))) × (now (out .exit) ≡ put (now (out .entry)) 0 (printedBy sheet (now (table .entry)) begun (take partSize (now (input .entry))))) ⌝ }
+    ensures { λ r. ⌜ (r .begun ≡ begunBy begun (taken (now (input .entry)))) × Stands 0 (printedBy sheet (now (table .entry)) begun (taken (now (input .entry)))) (r .length) (now (out .entry)) (now (out .exit)) ⌝ }
 {
     let end = least(input.len(), PART_SIZE);
     let mut begun = begun;

@@ -4,6 +4,7 @@ ghost use mathlib.Core.Path.{_≡_};
 ghost use lib.ListN.{length};
 ghost use Rattle.io.specs.Counts.{Counts};
 use atlas_file::FileAnswer;
+use atlas_file::MOST_PLACES;
 use libc::STDIN_FILENO;
 use libc::STDOUT_FILENO;
 use place::Place;
@@ -48,11 +49,11 @@ fn answer_taps(file: &[u8]) {
 }
 
 // A table for as many places as a file can have.
-fn blank_table() -> [Place; 1000]
+fn blank_table() -> [Place; MOST_PLACES]
     ensures { λ r. ⌜ length r ≡ 1000 ⌝ }
 {
     let place = place::blank();
-    [place; 1000]
+    [place; MOST_PLACES]
 }
 
 // Answers each line of standard input by the first `count` places of a table, until the input ends or cannot be read, or an answer cannot be
@@ -61,7 +62,7 @@ fn answer_lines(sheet: Sheet, table: &[Place], count: usize)
     requires { ⌜ count ≤ length (now table) ⌝ }
 {
     let mut begun = programs::begin();
-    let mut text = io::large_buffer();
+    let mut out = io::large_buffer();
     let mut reads = u64::MAX;
     while 0 < reads {
         let mut input = [0u8; PART_SIZE];
@@ -69,16 +70,10 @@ fn answer_lines(sheet: Sheet, table: &[Place], count: usize)
         if filled == 0 {
             break;
         }
-        let answered = programs::answers(
-            sheet,
-            &table[..count],
-            begun,
-            &input[..filled],
-            &mut text,
-        );
+        let answered = programs::answers(sheet, &table[..count], begun, &input[..filled], &mut out);
         begun = answered.begun;
         let end = answered.length;
-        let written = io::write_all(STDOUT_FILENO, &text[..end]);
+        let written = io::write_all(STDOUT_FILENO, &out[..end]);
         if !written {
             return;
         }
@@ -95,12 +90,11 @@ fn read_some(input: &mut [u8; PART_SIZE]) -> usize
     io::count(got, input)
 }
 
-// Writes a line, and answers whether it could be written.
-fn print(line: Line) -> bool {
+// Writes a line.
+fn print(line: Line) {
     let bytes = line.bytes;
     let start = line.start;
-    if LINE_SIZE < start {
-        return true;
+    if start <= LINE_SIZE {
+        io::write_all(STDOUT_FILENO, &bytes[start..]);
     }
-    io::write_all(STDOUT_FILENO, &bytes[start..])
 }

@@ -1,6 +1,6 @@
 // The engine's functions for test programs, through the C ABI: the interface of the tests alone, not of users.
 //
-// Each says, by the replies of the engine's own contracts, what it gives and what it stores, on refusal too, for any arguments.
+// The contract of each says, by the engine's own replies, what it gives and stores, on refusal too; none has a `requires`.
 //
 // A sheet is passed as nine numbers, in the order of its record. A function that can refuse gives the refusal's number, 0 where it accepts.
 // Out arrays are overwritten in full, with zeros where there is no value.

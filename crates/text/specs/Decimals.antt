@@ -50,6 +50,7 @@ unfoldable pub isNumber : List ℕ → Bool
 isNumber [] = false
 isNumber (b ∷ bs) = cond (eqb b minus) (isNumeral bs) (isNumeral (b ∷ bs))
 
+-- the number that such a text spells
 unfoldable pub spelled : List ℕ → ℤ
 spelled [] = pos 0
 spelled (b ∷ bs) = cond (eqb b minus) (negℤ (pos (spelledFrom 0 bs))) (pos (spelledFrom 0 (b ∷ bs)))

@@ -17,7 +17,7 @@ pub const LINE_SIZE: usize = 64;
 
 // A line of up to LINE_SIZE bytes: those from `start` on.
 pub struct Line {
-    pub bytes: [u8; 64],
+    pub bytes: [u8; LINE_SIZE],
     pub start: usize,
 }
 
@@ -26,7 +26,7 @@ pub fn empty() -> Line
     ensures { λ r. ⌜ Holds r [] ⌝ }
 {
     Line {
-        bytes: [0; 64],
+        bytes: [0; LINE_SIZE],
         start: LINE_SIZE,
     }
 }

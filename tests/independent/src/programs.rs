@@ -612,8 +612,8 @@ pub fn tap(program: &Path) -> Compared {
             t.bytes(&mill_file, &input)?;
         }
     }
-    // The most answers that can come of so many bytes: empty lines, and the
-    // shortest right ones
+    // Many answers to one part of the input: to empty lines, the most there
+    // can be; to short lines; to lines with a place near
     for line in ["\n", "0 0\n", "0 1000000\n"] {
         t.bytes(&mill_file, line.repeat(5_000).as_bytes())?;
     }

@@ -4,7 +4,7 @@ use Prim.Native.Nat.{_≤_}
 use borrow.Author.Needs.{needs}
 use lib.ListN.{length}
 use lib.Seq.{length-take-le}
-use Rattle.programs.proofs.Listings.{put-room}
+use Rattle.programs.proofs.Listings.{stands-within}
 use Rattle.lister.proofs.main.Statement.{statement}
 use Rattle.lister.proofs.main.Tie as tie
 
@@ -27,7 +27,7 @@ listing-requires : tie.Need-listing-requires
 listing-requires c κs = search needs
 
 ends : (c : tie.After-listing) → c .listing .result ≤ length (c .listing .last .1 .0)
-ends c = rw (c .listing .ensures .0, c .listing .ensures .1) (put-room _ _)
+ends c = stands-within _ _ (c .listing .ensures)
 
 array-share-prefix-text : tie.Need-array-share-prefix-text
 array-share-prefix-text c = ends c

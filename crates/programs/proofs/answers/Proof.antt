@@ -6,10 +6,10 @@ use Prim.Native.Nat.{_+_, _-_, _*_, _≤_, _<_}
 use native.Mathlib.Omega.{arith}
 use borrow.Author.Needs.{needs}
 use denote.Ref.{now}
-use lib.ListN.{length, getD, take, drop, drop-of-length-le, length-take, length-append}
+use lib.ListN.{length, getD, drop, drop-of-length-le, length-take, length-append}
 use Rattle.little_endian.specs.Numbers.{put}
 use Rattle.little_endian.proofs.Puts.{put-none, put-append}
-use Rattle.programs.specs.Tapping.{begunBy, printedAt, printedBy, partSize}
+use Rattle.programs.specs.Tapping.{begunBy, printedAt, printedBy, partSize, taken}
 use Rattle.text.proofs.Building.{held-text}
 use Rattle.programs.proofs.Answering.{begun-turn, printed-turn}
 use Rattle.programs.proofs.answers.Statement.{statement}
@@ -17,7 +17,7 @@ use Rattle.programs.proofs.answers.Proof.Tie as tie
 
 abbrev Inv-loop : tie.InvT-loop
 Inv-loop sheet table input out₀ end begun₀ to₀ k₀ out begun to k =
-    let part = take partSize input in
+    let part = taken input in
     let left = printedBy sheet table begun (drop k part) in
     let all = printedBy sheet table begun₀ part in
     (k ≤ end) × (end ≤ partSize) × (end ≡ length part) × (to ≤ 64 * k)
@@ -55,7 +55,7 @@ loop-again c =
     let l = f .before .before .before .loop in
     let a = f .before .before .before .before .before .before .args in
     let input = now (a .input) in
-    let below : l .k < length (take partSize input) = omega (arith, l .inv .2) in
+    let below : l .k < length (taken input) = omega (arith, l .inv .2) in
     let begun-is = f .feed .ensures .0 in
     let fits = f .feed .ensures .1 .0 in
     let text = held-text _ _ (f .feed .ensures .1) in
@@ -77,8 +77,8 @@ loop-again c =
 returns : tie.Need-returns Inv-loop μ-loop
 returns c =
     let l = c .before .loop in
-    let none = drop-of-length-le (take partSize (now (c .before .before .before .before .args .input))) {i = l .k} (omega (arith, l .inv .2)) in
-    (rw none at (l .inv .4), let e = rw none at (l .inv .5) in omega (arith, e), rw (none, put-none) at (l .inv .6))
+    let none = drop-of-length-le (taken (now (c .before .before .before .before .args .input))) {i = l .k} (omega (arith, l .inv .2)) in
+    (rw none at (l .inv .4), (let e = rw none at (l .inv .5) in omega (arith, e), rw (none, put-none) at (l .inv .6)))
 
 pub answers-spec : {M : Type 1} → statement M
 answers-spec = tie.close (tie.spec Inv-loop μ-loop least-requires loop-holds shared-slice-read-feed feed-requires put-line-requires add-k loop-less loop-again returns)

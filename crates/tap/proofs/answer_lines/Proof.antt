@@ -7,15 +7,15 @@ use borrow.Author.Needs.{needs}
 use denote.Ref.{now}
 use lib.ListN.{length}
 use lib.Seq.{length-take-le}
-use Rattle.programs.proofs.Listings.{put-room}
+use Rattle.programs.proofs.Listings.{stands-within}
 use Rattle.tap.proofs.answer_lines.Statement.{statement}
 use Rattle.tap.proofs.answer_lines.Proof.Tie as tie
 
 abbrev Inv-loop : tie.InvT-loop
-Inv-loop sheet table count begun₀ text₀ reads₀ begun text reads = Unit {0}
+Inv-loop sheet table count begun₀ out₀ reads₀ begun out reads = Unit {0}
 
 abbrev μ-loop : tie.MeasureT-loop
-μ-loop sheet table count begun₀ text₀ reads₀ begun text reads = reads
+μ-loop sheet table count begun₀ out₀ reads₀ begun out reads = reads
 
 begin-requires : tie.Need-begin-requires Inv-loop μ-loop
 begin-requires c κs = search needs
@@ -44,10 +44,10 @@ answers-requires : tie.Need-answers-requires Inv-loop μ-loop
 answers-requires c κs = search needs
 
 ends : (c : tie.After-answers Inv-loop μ-loop) → c .answers .result .«length» ≤ length (c .answers .last .1 .1 .1 .1 .0)
-ends c = rw (c .answers .ensures .1, c .answers .ensures .2) (put-room _ _)
+ends c = stands-within _ _ (c .answers .ensures .1)
 
-array-share-prefix-text : tie.Need-array-share-prefix-text Inv-loop μ-loop
-array-share-prefix-text c = ends (c .before)
+array-share-prefix-out : tie.Need-array-share-prefix-out Inv-loop μ-loop
+array-share-prefix-out c = ends (c .before)
 
 slice-aggregate-write-all : tie.Need-slice-aggregate-write-all Inv-loop μ-loop
 slice-aggregate-write-all c = sym (length-take-le _ _ (ends (c .before .before)))
@@ -80,4 +80,4 @@ returns-2 : tie.Need-returns-2 Inv-loop μ-loop
 returns-2 c = search needs
 
 pub answer-lines-spec : {M : Type 1} → statement M
-answer-lines-spec = tie.close (tie.spec Inv-loop μ-loop begin-requires large-buffer-requires loop-holds read-some-requires slice-aggregate-answers array-share-prefix-input slice-aggregate-answers-2 answers-requires array-share-prefix-text slice-aggregate-write-all write-all-requires returns sub-reads loop-less loop-again slice-aggregate-finish finish-requires print-requires returns-2)
+answer-lines-spec = tie.close (tie.spec Inv-loop μ-loop begin-requires large-buffer-requires loop-holds read-some-requires slice-aggregate-answers array-share-prefix-input slice-aggregate-answers-2 answers-requires array-share-prefix-out slice-aggregate-write-all write-all-requires returns sub-reads loop-less loop-again slice-aggregate-finish finish-requires print-requires returns-2)

@@ -1,11 +1,10 @@
--- `tap::answer_taps` meets its contract. Assumes nothing.
+-- `tap::answer_taps` is safe and ends. Assumes nothing.
 mod Lts
 mod Tie
 use mathlib.Core.Path.{_≡_, refl, sym, ap, _∙_}
 use native.Mathlib.Omega.{arith}
 use borrow.Author.Needs.{needs}
 use denote.Ref.{now}
-use Rattle.atlas_file.specs.Steps.{mostPlaces}
 use Rattle.atlas_file.specs.Reading.{FileReply, acceptedFile, fileReplyOf, readReply}
 use Rattle.atlas.proofs.FilePlaces.{accepted-file, accepted-count}
 use Rattle.tap.proofs.answer_taps.Statement.{statement}

@@ -6,9 +6,6 @@ use lib.ListN.{length}
 use Rattle.tap.proofs.print.Statement.{statement}
 use Rattle.tap.proofs.print.Tie as tie
 
-returns : tie.Need-returns
-returns c = search needs
-
 part-write-all-start : tie.Need-part-write-all-start
 part-write-all-start c = search needs
 
@@ -21,10 +18,13 @@ part-write-all-end c =
 write-all-requires : tie.Need-write-all-requires
 write-all-requires c κs = search needs
 
+returns : tie.Need-returns
+returns c = search needs
+
 returns-2 : tie.Need-returns-2
 returns-2 c = search needs
 
 pub print-spec : {M : Type 1} → statement M
 print-spec =
     tie.close
-    (tie.spec returns part-write-all-start part-write-all-end write-all-requires returns-2)
+    (tie.spec part-write-all-start part-write-all-end write-all-requires returns returns-2)

@@ -84,7 +84,7 @@ r = Unit'.rUnit
 
 abbrev pub xs : List S.Ty
 xs = Laws'.mir ∷ S.tyArray (S.tyInt S.w8) 65536 ∷ S.tyInt S.w64 ∷ S.tyArray (S.tyInt S.w8) 1024 ∷ S.tyInt S.w64 ∷ Laws.mir ∷ S.tyInt S.w64 ∷ S.tyBool ∷ S.tyArray (S.tyInt S.w8) 65536 ∷ S.tyBool ∷ S.tyRef S.erased S.mut (S.tyArray (S.tyInt S.w8) 1024) ∷ S.tyRef S.erased S.imm PlaceKind.named ∷ S.tyStruct (38 ∷ 91 ∷ 93 ∷ []) (S.tcons (S.tyRef S.erased S.imm PlaceKind.named) (S.tcons (S.tyInt S.w64) S.tnil)) ∷ S.tyRef S.erased S.imm (S.tyArray (S.tyInt S.w8) 1024) ∷ S.tyStruct (38 ∷ 91 ∷ 93 ∷ []) (S.tcons (S.tyRef S.erased S.imm (S.tyInt S.w8)) (S.tcons (S.tyInt S.w64) S.tnil)) ∷ S.tyRef S.erased S.mut (S.tyArray (S.tyInt S.w8) 65536) ∷ S.tyRef S.erased S.imm (S.tyArray (S.tyInt
-    S.w8) 65536) ∷ S.tyStruct (38 ∷ 91 ∷ 93 ∷ []) (S.tcons (S.tyRef S.erased S.imm (S.tyInt S.w8)) (S.tcons (S.tyInt S.w64) S.tnil)) ∷ S.tyBool ∷ Laws'3.mir ∷ S.tyRef S.erased S.imm PlaceKind.named ∷ S.tyStruct (38 ∷ 91 ∷ 93 ∷ []) (S.tcons (S.tyRef S.erased S.imm PlaceKind.named) (S.tcons (S.tyInt S.w64) S.tnil)) ∷ []
+    S.w8) 65536) ∷ S.tyStruct (38 ∷ 91 ∷ 93 ∷ []) (S.tcons (S.tyRef S.erased S.imm (S.tyInt S.w8)) (S.tcons (S.tyInt S.w64) S.tnil)) ∷ S.tyUnit ∷ Laws'3.mir ∷ S.tyRef S.erased S.imm PlaceKind.named ∷ S.tyStruct (38 ∷ 91 ∷ 93 ∷ []) (S.tcons (S.tyRef S.erased S.imm PlaceKind.named) (S.tcons (S.tyInt S.w64) S.tnil)) ∷ []
 
 abbrev pub m : Nat.ℕ
 m = 4
@@ -149,7 +149,7 @@ abbrev pub ps·6 : List (Kinds.PK 0)
 ps·6 = (Value.pVal record { ty = Declared.row Line.the-type; one = Path'.refl; val = Laws'4.val Line.the-type Laws'3.the-laws; tells = Laws'4.tells Line.the-type Laws'3.the-laws; still = Laws'4.still Line.the-type Laws'3.the-copy Exit.yes; row = Rows'.whole (Declared.row Line.the-type); rd = λ x. x; mk = λ x. x } λ M 𝓤 H A W. record { copies = Laws'4.copy Line.the-type Laws'3.the-copy 𝓤 H A W; lawful = Laws'4.lawful Line.the-type Laws'3.the-laws 𝓤 H A W; makes = Laws'4.makes Line.the-type Laws'3.the-plain 𝓤 H A; in-mem = Local.mem-whole 𝓤 H A W (Declared.row Line.the-type); of-mem = Local.whole-mem 𝓤 H A W (Declared.row Line.the-type) }) ∷ []
 
 abbrev pub r·6 : Kinds.RK 0
-r·6 = Bool.rBool
+r·6 = Unit'.rUnit
 
 abbrev pub hs : List S.Home
 hs = S.valueLocal ∷ S.valueLocal ∷ S.valueLocal ∷ S.valueLocal ∷ S.valueLocal ∷ S.memorySlot ∷ S.valueLocal ∷ S.memorySlot ∷ S.valueLocal ∷ S.valueLocal ∷ S.valueLocal ∷ S.valueLocal ∷ S.valueLocal ∷ S.valueLocal ∷ S.valueLocal ∷ S.valueLocal ∷ S.valueLocal ∷ S.valueLocal ∷ S.valueLocal ∷ S.valueLocal ∷ S.valueLocal ∷ S.valueLocal ∷ S.valueLocal ∷ S.valueLocal ∷ S.valueLocal ∷ S.valueLocal ∷ []
@@ -377,7 +377,7 @@ abbrev pub t0 : List Row.Entry
 t0 = (0, Rows'.any-gone S.tyUnit) ∷ (1, Rows'.whole (Declared.row Sheet.the-type)) ∷ (2, Rows'.sslice Place.the-row (S.tyRef (S.named 0) S.imm PlaceKind.named) 0) ∷ (3, Rows'.sc-here (Row.sInt S.w64)) ∷ (4, Rows'.any-gone Laws'.mir) ∷ (5, Rows'.any-gone (S.tyArray (S.tyInt S.w8) 65536)) ∷ (6, Rows'.any-gone (S.tyInt S.w64)) ∷ (7, Rows'.any-gone (S.tyArray (S.tyInt S.w8) 1024)) ∷ (8, Rows'.any-gone (S.tyInt S.w64)) ∷ (9, Rows'.any-gone Laws.mir) ∷ (10, Rows'.any-gone (S.tyInt S.w64)) ∷ (11, Rows'.any-gone S.tyBool) ∷ (12, Rows'.any-gone (S.tyArray (S.tyInt S.w8) 65536)) ∷ (13, Rows'.any-gone S.tyBool) ∷ (14, Rows'.any-gone (S.tyRef S.erased S.mut (S.tyArray (S.tyInt S.w8) 1024))) ∷ (15, Rows'.any-gone (S.tyRef S.erased S.imm PlaceKind.named)) ∷ []
 
 abbrev pub t1 : List Row.Entry
-t1 = (16, Rows'.any-gone (S.tyStruct (38 ∷ 91 ∷ 93 ∷ []) (S.tcons (S.tyRef S.erased S.imm PlaceKind.named) (S.tcons (S.tyInt S.w64) S.tnil)))) ∷ (17, Rows'.any-gone (S.tyRef S.erased S.imm (S.tyArray (S.tyInt S.w8) 1024))) ∷ (18, Rows'.any-gone (S.tyStruct (38 ∷ 91 ∷ 93 ∷ []) (S.tcons (S.tyRef S.erased S.imm (S.tyInt S.w8)) (S.tcons (S.tyInt S.w64) S.tnil)))) ∷ (19, Rows'.any-gone (S.tyRef S.erased S.mut (S.tyArray (S.tyInt S.w8) 65536))) ∷ (20, Rows'.any-gone (S.tyRef S.erased S.imm (S.tyArray (S.tyInt S.w8) 65536))) ∷ (21, Rows'.any-gone (S.tyStruct (38 ∷ 91 ∷ 93 ∷ []) (S.tcons (S.tyRef S.erased S.imm (S.tyInt S.w8)) (S.tcons (S.tyInt S.w64) S.tnil)))) ∷ (22, Rows'.any-gone S.tyBool) ∷ (23, Rows'.any-gone Laws'3.mir) ∷ (
+t1 = (16, Rows'.any-gone (S.tyStruct (38 ∷ 91 ∷ 93 ∷ []) (S.tcons (S.tyRef S.erased S.imm PlaceKind.named) (S.tcons (S.tyInt S.w64) S.tnil)))) ∷ (17, Rows'.any-gone (S.tyRef S.erased S.imm (S.tyArray (S.tyInt S.w8) 1024))) ∷ (18, Rows'.any-gone (S.tyStruct (38 ∷ 91 ∷ 93 ∷ []) (S.tcons (S.tyRef S.erased S.imm (S.tyInt S.w8)) (S.tcons (S.tyInt S.w64) S.tnil)))) ∷ (19, Rows'.any-gone (S.tyRef S.erased S.mut (S.tyArray (S.tyInt S.w8) 65536))) ∷ (20, Rows'.any-gone (S.tyRef S.erased S.imm (S.tyArray (S.tyInt S.w8) 65536))) ∷ (21, Rows'.any-gone (S.tyStruct (38 ∷ 91 ∷ 93 ∷ []) (S.tcons (S.tyRef S.erased S.imm (S.tyInt S.w8)) (S.tcons (S.tyInt S.w64) S.tnil)))) ∷ (22, Rows'.any-gone S.tyUnit) ∷ (23, Rows'.any-gone Laws'3.mir) ∷ (
   24,
   Rows'.any-gone
       (S.tyRef S.erased S.imm PlaceKind.named),
@@ -561,7 +561,7 @@ abbrev pub t60 : List Row.Entry
 t60 = Row.setRow 4 (4, Rows'.any-gone Laws'.mir) t59
 
 abbrev pub t61 : List Row.Entry
-t61 = Row.setRow 6 (22, Rows'.sc-here Row.sBool) t58
+t61 = Row.setRow 6 (22, Rows'.sc-here Row.sUnit) t58
 
 abbrev pub t62 : List Row.Entry
 t62 = Row.setRow 0 (0, Rows'.sc-here Row.sUnit) t60
@@ -1006,10 +1006,10 @@ module _ (claims· : Claims) where
   s73 = λ bs. Scalar.n-room T78 4 Laws'.mir
 
   abbrev s74 : (bs : List Nat.ℕ) → Typed.Both T79 T80
-  s74 = λ bs. Call.callB ps·6 r·6 (claims· .12) (claims· .13) T79 (record { pos = 23; st = []; d = 0; at = λ x. x }, tt) 22 [] S.tyBool
+  s74 = λ bs. Call.callB ps·6 r·6 (claims· .12) (claims· .13) T79 (record { pos = 23; st = []; d = 0; at = λ x. x }, tt) 22 [] S.tyUnit
 
   abbrev s75 : (bs : List Nat.ℕ) → Typed.Mo T80 → Typed.Mo T81
-  s75 = λ bs. Scalar.n-room T80 22 S.tyBool
+  s75 = λ bs. Scalar.n-room T80 22 S.tyUnit
 
   abbrev s76 : (bs : List Nat.ℕ) → Typed.Mo T81 → Typed.Mo T82
   s76 = λ bs. Scalar.n-room T81 23 Laws'3.mir
@@ -1869,10 +1869,10 @@ module _ (claims· : Claims) where
           d78 = Typed.g-pre 𝓤 H A W 𝓣 E _ _ _ _ _ _ (Scalar.g-room 𝓤 H A W E G81 23 Laws'3.mir (Local.room-whole 𝓤 H A W (Declared.row Line.the-type) Laws'3.mir Path'.refl)) d77
 
           d79 : Typed.Typed 𝓤 H A 𝓣 E G80 b61 Δ0 (at79 bs)
-          d79 = Typed.g-pre 𝓤 H A W 𝓣 E _ _ _ _ _ _ (Scalar.g-room 𝓤 H A W E G80 22 S.tyBool (Scalar.room-sc 𝓤 H A W Row.sBool)) d78
+          d79 = Typed.g-pre 𝓤 H A W 𝓣 E _ _ _ _ _ _ (Scalar.g-room 𝓤 H A W E G80 22 S.tyUnit (Scalar.room-sc 𝓤 H A W Row.sUnit)) d78
 
           d80 : Typed.Typed 𝓤 H A 𝓣 E G79 b62 Δ0 (at80 bs)
-          d80 = Typed.s-seq 𝓤 H A W 𝓣 E _ _ _ _ _ _ _ (Plain.t-call-plain 𝓤 H A W 𝓣 0 ps·6 r·6 (claims· .12) (claims· .13) "tap::print" (known .6) E (λ pos β. β) G79 (record { pos = 23; st = []; d = 0; at = λ x. x }, tt) 22 [] (Call.sub-id 𝓤 H A W (G79 .slots)) ((Yields.yields-copy 𝓤 H A W (λ ρ. Unit) (Declared.row Line.the-type) Path'.refl (Copies.cStruct Line.the-type Laws'3.the-laws Laws'3.the-copy .copy 𝓤 H A W) (Rows'.whole (Declared.row Line.the-type)) (λ x. x) (λ x. x) (λ ρ told. Local.mem-whole 𝓤 H A W (Declared.row Line.the-type) ρ) λ ρ told. Local.whole-mem 𝓤 H A W (Declared.row Line.the-type) ρ, Path'.refl), tt) (Reads'.room-gone 𝓤 H A S.tyBool) tt Path'.refl) d79
+          d80 = Typed.s-seq 𝓤 H A W 𝓣 E _ _ _ _ _ _ _ (Plain.t-call-plain 𝓤 H A W 𝓣 0 ps·6 r·6 (claims· .12) (claims· .13) "tap::print" (known .6) E (λ pos β. β) G79 (record { pos = 23; st = []; d = 0; at = λ x. x }, tt) 22 [] (Call.sub-id 𝓤 H A W (G79 .slots)) ((Yields.yields-copy 𝓤 H A W (λ ρ. Unit) (Declared.row Line.the-type) Path'.refl (Copies.cStruct Line.the-type Laws'3.the-laws Laws'3.the-copy .copy 𝓤 H A W) (Rows'.whole (Declared.row Line.the-type)) (λ x. x) (λ x. x) (λ ρ told. Local.mem-whole 𝓤 H A W (Declared.row Line.the-type) ρ) λ ρ told. Local.whole-mem 𝓤 H A W (Declared.row Line.the-type) ρ, Path'.refl), tt) (Reads'.room-gone 𝓤 H A S.tyUnit) tt Path'.refl) d79
 
           d81 : Typed.Typed 𝓤 H A 𝓣 E G78 b62 Δ0 (at81 bs)
           d81 = Typed.g-pre 𝓤 H A W 𝓣 E _ _ _ _ _ _ (Scalar.g-room 𝓤 H A W E G78 4 Laws'.mir (Local.room-whole 𝓤 H A W (Declared.row Begun.the-type) Laws'.mir Path'.refl)) d80
@@ -2002,24 +2002,24 @@ module _ (claims· : Claims) where
       abbrev pub Need-loop-holds : Type 0
       Need-loop-holds = (c : After-large-buffer) → Inv·0 (Row.get 1 (T6 .locals) (m5 (c .before) (After-large-buffer·gave c))) (Row.get 2 (T6 .locals) (m5 (c .before) (After-large-buffer·gave c)) .now) (Row.get 3 (T6 .locals) (m5 (c .before) (After-large-buffer·gave c))) (Row.get 4 (T6 .locals) (m5 (c .before) (After-large-buffer·gave c))) (Row.get 5 (T6 .locals) (m5 (c .before) (After-large-buffer·gave c))) (Row.get 6 (T6 .locals) (m5 (c .before) (After-large-buffer·gave c))) (Row.get 4 (T6 .locals) (m5 (c .before) (After-large-buffer·gave c))) (Row.get 5 (T6 .locals) (m5 (c .before) (After-large-buffer·gave c))) (Row.get 6 (T6 .locals) (m5 (c .before) (After-large-buffer·gave c)))
 
-      abbrev pub m6 : (before : After-large-buffer) → (begun : Rows'.whole (Declared.row Begun.the-type) .Mod) → (text : Rows.arrF (Referent.rtF (Referent.fInt S.w8)) 65536 0 .Mod) → (reads : Rows'.sc-here (Row.sInt S.w64) .Mod) → Typed.Mo T6
-      m6 = λ before begun text reads. Row.set 6 (6, Rows'.sc-here (Row.sInt S.w64)) reads (Row.setRow 5 (5, Rows.arrF (Referent.rtF (Referent.fInt S.w8)) 65536 0) (Row.setRow 4 (4, Rows'.whole (Declared.row Begun.the-type)) (T6 .locals))) (Row.set 5 (5, Rows.arrF (Referent.rtF (Referent.fInt S.w8)) 65536 0) text (Row.setRow 4 (4, Rows'.whole (Declared.row Begun.the-type)) (T6 .locals)) (Row.set 4 (4, Rows'.whole (Declared.row Begun.the-type)) begun (T6 .locals) (m5 (before .before) (After-large-buffer·gave before))))
+      abbrev pub m6 : (before : After-large-buffer) → (begun : Rows'.whole (Declared.row Begun.the-type) .Mod) → (out : Rows.arrF (Referent.rtF (Referent.fInt S.w8)) 65536 0 .Mod) → (reads : Rows'.sc-here (Row.sInt S.w64) .Mod) → Typed.Mo T6
+      m6 = λ before begun out reads. Row.set 6 (6, Rows'.sc-here (Row.sInt S.w64)) reads (Row.setRow 5 (5, Rows.arrF (Referent.rtF (Referent.fInt S.w8)) 65536 0) (Row.setRow 4 (4, Rows'.whole (Declared.row Begun.the-type)) (T6 .locals))) (Row.set 5 (5, Rows.arrF (Referent.rtF (Referent.fInt S.w8)) 65536 0) out (Row.setRow 4 (4, Rows'.whole (Declared.row Begun.the-type)) (T6 .locals)) (Row.set 4 (4, Rows'.whole (Declared.row Begun.the-type)) begun (T6 .locals) (m5 (before .before) (After-large-buffer·gave before))))
 
-      abbrev W3 : (before : After-large-buffer) → (begun : Rows'.whole (Declared.row Begun.the-type) .Mod) → (text : Rows.arrF (Referent.rtF (Referent.fInt S.w8)) 65536 0 .Mod) → (reads : Rows'.sc-here (Row.sInt S.w64) .Mod) → Typed.Want O3
-      W3 = λ before begun text reads. Typed.inLoop T6 O2 (Typed.Round T6 O2 put0 (λ u vs. Inv·0 (Row.get 1 (T6 .locals) u) (Row.get 2 (T6 .locals) u .now) (Row.get 3 (T6 .locals) u) (Row.get 4 (T6 .locals) u) (Row.get 5 (T6 .locals) u) (Row.get 6 (T6 .locals) u) (vs .0) (vs .1) (vs .2)) (λ u vs. μ·0 (Row.get 1 (T6 .locals) u) (Row.get 2 (T6 .locals) u .now) (Row.get 3 (T6 .locals) u) (Row.get 4 (T6 .locals) u) (Row.get 5 (T6 .locals) u) (Row.get 6 (T6 .locals) u) (vs .0) (vs .1) (vs .2)) (at71 (before .before .before .blocks)) (m5 (before .before) (After-large-buffer·gave before)) (begun, text, reads)) (W2 (before .before) (After-large-buffer·gave before))
+      abbrev W3 : (before : After-large-buffer) → (begun : Rows'.whole (Declared.row Begun.the-type) .Mod) → (out : Rows.arrF (Referent.rtF (Referent.fInt S.w8)) 65536 0 .Mod) → (reads : Rows'.sc-here (Row.sInt S.w64) .Mod) → Typed.Want O3
+      W3 = λ before begun out reads. Typed.inLoop T6 O2 (Typed.Round T6 O2 put0 (λ u vs. Inv·0 (Row.get 1 (T6 .locals) u) (Row.get 2 (T6 .locals) u .now) (Row.get 3 (T6 .locals) u) (Row.get 4 (T6 .locals) u) (Row.get 5 (T6 .locals) u) (Row.get 6 (T6 .locals) u) (vs .0) (vs .1) (vs .2)) (λ u vs. μ·0 (Row.get 1 (T6 .locals) u) (Row.get 2 (T6 .locals) u .now) (Row.get 3 (T6 .locals) u) (Row.get 4 (T6 .locals) u) (Row.get 5 (T6 .locals) u) (Row.get 6 (T6 .locals) u) (vs .0) (vs .1) (vs .2)) (at71 (before .before .before .blocks)) (m5 (before .before) (After-large-buffer·gave before)) (begun, out, reads)) (W2 (before .before) (After-large-buffer·gave before))
 
-      abbrev pub m7 : (before : After-large-buffer) → (begun : Rows'.whole (Declared.row Begun.the-type) .Mod) → (text : Rows.arrF (Referent.rtF (Referent.fInt S.w8)) 65536 0 .Mod) → (reads : Rows'.sc-here (Row.sInt S.w64) .Mod) → Typed.Mo T8
-      m7 = λ before begun text reads. s5 (before .before .before .blocks) .next (m6 before begun text reads)
+      abbrev pub m7 : (before : After-large-buffer) → (begun : Rows'.whole (Declared.row Begun.the-type) .Mod) → (out : Rows.arrF (Referent.rtF (Referent.fInt S.w8)) 65536 0 .Mod) → (reads : Rows'.sc-here (Row.sInt S.w64) .Mod) → Typed.Mo T8
+      m7 = λ before begun out reads. s5 (before .before .before .blocks) .next (m6 before begun out reads)
 
-      abbrev W4 : (before : After-large-buffer) → (begun : Rows'.whole (Declared.row Begun.the-type) .Mod) → (text : Rows.arrF (Referent.rtF (Referent.fInt S.w8)) 65536 0 .Mod) → (reads : Rows'.sc-here (Row.sInt S.w64) .Mod) → Typed.Want O4
-      W4 = λ before begun text reads. Typed.wantNext T9 O3 (at69 (before .before .before .blocks) (W3 before begun text reads)) (W3 before begun text reads)
+      abbrev W4 : (before : After-large-buffer) → (begun : Rows'.whole (Declared.row Begun.the-type) .Mod) → (out : Rows.arrF (Referent.rtF (Referent.fInt S.w8)) 65536 0 .Mod) → (reads : Rows'.sc-here (Row.sInt S.w64) .Mod) → Typed.Want O4
+      W4 = λ before begun out reads. Typed.wantNext T9 O3 (at69 (before .before .before .blocks) (W3 before begun out reads)) (W3 before begun out reads)
 
       module _ (before· : After-large-buffer) where
         pub record At-loop·own : Type 0 where
           pub begun : Rows'.whole (Declared.row Begun.the-type) .Mod
-          pub text : Rows.arrF (Referent.rtF (Referent.fInt S.w8)) 65536 0 .Mod
+          pub out : Rows.arrF (Referent.rtF (Referent.fInt S.w8)) 65536 0 .Mod
           pub reads : Rows'.sc-here (Row.sInt S.w64) .Mod
-          pub inv : Inv·0 (Row.get 1 (T6 .locals) (m5 (before· .before) (After-large-buffer·gave before·))) (Row.get 2 (T6 .locals) (m5 (before· .before) (After-large-buffer·gave before·)) .now) (Row.get 3 (T6 .locals) (m5 (before· .before) (After-large-buffer·gave before·))) (Row.get 4 (T6 .locals) (m5 (before· .before) (After-large-buffer·gave before·))) (Row.get 5 (T6 .locals) (m5 (before· .before) (After-large-buffer·gave before·))) (Row.get 6 (T6 .locals) (m5 (before· .before) (After-large-buffer·gave before·))) begun text reads
+          pub inv : Inv·0 (Row.get 1 (T6 .locals) (m5 (before· .before) (After-large-buffer·gave before·))) (Row.get 2 (T6 .locals) (m5 (before· .before) (After-large-buffer·gave before·)) .now) (Row.get 3 (T6 .locals) (m5 (before· .before) (After-large-buffer·gave before·))) (Row.get 4 (T6 .locals) (m5 (before· .before) (After-large-buffer·gave before·))) (Row.get 5 (T6 .locals) (m5 (before· .before) (After-large-buffer·gave before·))) (Row.get 6 (T6 .locals) (m5 (before· .before) (After-large-buffer·gave before·))) begun out reads
 
       pub record At-loop : Type 0 where
         pub before : After-large-buffer
@@ -2027,25 +2027,25 @@ module _ (claims· : Claims) where
 
       module _ (before· : At-loop) where
         pub record In-loop·own : Type 0 where
-          pub taken : Nat._<_ 0 (Row.get 6 (T6 .locals) (m6 (before· .before) (before· .loop .begun) (before· .loop .text) (before· .loop .reads)))
+          pub taken : Nat._<_ 0 (Row.get 6 (T6 .locals) (m6 (before· .before) (before· .loop .begun) (before· .loop .out) (before· .loop .reads)))
 
       pub record In-loop : Type 0 where
         pub before : At-loop
         pub loop-test : In-loop·own before
 
       abbrev pub m8 : (before : At-loop) → Typed.Mo T10
-      m8 = λ before. s6 (before .before .before .before .blocks) (m7 (before .before) (before .loop .begun) (before .loop .text) (before .loop .reads))
+      m8 = λ before. s6 (before .before .before .before .blocks) (m7 (before .before) (before .loop .begun) (before .loop .out) (before .loop .reads))
 
       module _ (before· : At-loop) where
         pub record After-loop·own : Type 0 where
-          pub left : Nat._≤_ (Row.get 6 (T6 .locals) (m6 (before· .before) (before· .loop .begun) (before· .loop .text) (before· .loop .reads))) 0
+          pub left : Nat._≤_ (Row.get 6 (T6 .locals) (m6 (before· .before) (before· .loop .begun) (before· .loop .out) (before· .loop .reads))) 0
 
       pub record After-loop : Type 0 where
         pub before : At-loop
         pub loop-test : After-loop·own before
 
       abbrev pub m9 : (before : At-loop) → Typed.Mo T11
-      m9 = λ before. s7 (before .before .before .before .blocks) (m7 (before .before) (before .loop .begun) (before .loop .text) (before .loop .reads))
+      m9 = λ before. s7 (before .before .before .before .blocks) (m7 (before .before) (before .loop .begun) (before .loop .out) (before .loop .reads))
 
       abbrev pub m10 : (before : At-loop) → Typed.Mo T12
       m10 = λ before. s8 (before .before .before .before .blocks) (m9 before)
@@ -2091,7 +2091,7 @@ module _ (claims· : Claims) where
       m16 = λ before given. s17 (before .before .before .before .before .before .blocks) .next (m15 before given)
 
       abbrev W5 : (before : After-input) → (given : s13 (before .before .before .before .before .before .blocks) .gives (m13 (before .before) (before .input .given))) → Typed.Want O5
-      W5 = λ before given. Typed.wantNext T22 O3 (at59 (before .before .before .before .before .before .blocks) (W3 (before .before .before .before) (before .before .before .loop .begun) (before .before .before .loop .text) (before .before .before .loop .reads))) (W3 (before .before .before .before) (before .before .before .loop .begun) (before .before .before .loop .text) (before .before .before .loop .reads))
+      W5 = λ before given. Typed.wantNext T22 O3 (at59 (before .before .before .before .before .before .blocks) (W3 (before .before .before .before) (before .before .before .loop .begun) (before .before .before .loop .out) (before .before .before .loop .reads))) (W3 (before .before .before .before) (before .before .before .loop .begun) (before .before .before .loop .out) (before .before .before .loop .reads))
 
       module _ (before· : After-read-some) where
         pub record Then1·own : Type 0 where
@@ -2165,46 +2165,46 @@ module _ (claims· : Claims) where
       m26 = λ before given. s29 (before .before .before .before .before .before .before .before .before .before .blocks) .next (m25 (before .before) (before .input2 .given)) given
 
       module _ (before· : After-input2) where
-        pub record After-text·own : Type 0 where
+        pub record After-out·own : Type 0 where
           pub given : s29 (before· .before .before .before .before .before .before .before .before .before .blocks) .gives (m25 (before· .before) (before· .input2 .given))
 
-      pub record After-text : Type 0 where
+      pub record After-out : Type 0 where
         pub before : After-input2
-        pub text : After-text·own before
+        pub out : After-out·own before
 
       abbrev pub Need-answers-requires : Type 0
-      Need-answers-requires = (c : After-text) → s30 (c .before .before .before .before .before .before .before .before .before .before .blocks) .asks (m26 (c .before) (c .text .given))
+      Need-answers-requires = (c : After-out) → s30 (c .before .before .before .before .before .before .before .before .before .before .blocks) .asks (m26 (c .before) (c .out .given))
 
-      abbrev pub m27 : (before : After-text) → (given : s30 (before .before .before .before .before .before .before .before .before .before .before .blocks) .gives (m26 (before .before) (before .text .given))) → Typed.Mo T35
-      m27 = λ before given. s30 (before .before .before .before .before .before .before .before .before .before .before .blocks) .next (m26 (before .before) (before .text .given)) given
+      abbrev pub m27 : (before : After-out) → (given : s30 (before .before .before .before .before .before .before .before .before .before .before .blocks) .gives (m26 (before .before) (before .out .given))) → Typed.Mo T35
+      m27 = λ before given. s30 (before .before .before .before .before .before .before .before .before .before .before .blocks) .next (m26 (before .before) (before .out .given)) given
 
-      module _ (before· : After-text) where
+      module _ (before· : After-out) where
         abbrev pub After-answers·own : Type 0
-        After-answers·own = Called.Called ps·3 r·3 (claims· .7) T34 (record { pos = 1; st = []; d = 0; at = λ x. x }, (record { pos = 16; ty = S.tyRef S.erased S.imm PlaceKind.named; ref = λ x. x }, (record { pos = 4; st = []; d = 0; at = λ x. x }, (record { pos = 18; ty = S.tyRef S.erased S.imm (S.tyInt S.w8); ref = λ x. x }, (record { pos = 19; ty = S.tyRef S.erased S.mut (S.tyArray (S.tyInt S.w8) 65536); ref = λ x. x }, tt))))) (m26 (before· .before) (before· .text .given))
+        After-answers·own = Called.Called ps·3 r·3 (claims· .7) T34 (record { pos = 1; st = []; d = 0; at = λ x. x }, (record { pos = 16; ty = S.tyRef S.erased S.imm PlaceKind.named; ref = λ x. x }, (record { pos = 4; st = []; d = 0; at = λ x. x }, (record { pos = 18; ty = S.tyRef S.erased S.imm (S.tyInt S.w8); ref = λ x. x }, (record { pos = 19; ty = S.tyRef S.erased S.mut (S.tyArray (S.tyInt S.w8) 65536); ref = λ x. x }, tt))))) (m26 (before· .before) (before· .out .given))
 
       pub record After-answers : Type 0 where
-        pub before : After-text
+        pub before : After-out
         pub answers : After-answers·own before
 
-      abbrev pub After-answers·gave : (c : After-answers) → s30 (c .before .before .before .before .before .before .before .before .before .before .before .blocks) .gives (m26 (c .before .before) (c .before .text .given))
-      After-answers·gave = λ c. Called.given ps·3 r·3 (claims· .7) T34 (record { pos = 1; st = []; d = 0; at = λ x. x }, (record { pos = 16; ty = S.tyRef S.erased S.imm PlaceKind.named; ref = λ x. x }, (record { pos = 4; st = []; d = 0; at = λ x. x }, (record { pos = 18; ty = S.tyRef S.erased S.imm (S.tyInt S.w8); ref = λ x. x }, (record { pos = 19; ty = S.tyRef S.erased S.mut (S.tyArray (S.tyInt S.w8) 65536); ref = λ x. x }, tt))))) (m26 (c .before .before) (c .before .text .given)) (c .answers)
+      abbrev pub After-answers·gave : (c : After-answers) → s30 (c .before .before .before .before .before .before .before .before .before .before .before .blocks) .gives (m26 (c .before .before) (c .before .out .given))
+      After-answers·gave = λ c. Called.given ps·3 r·3 (claims· .7) T34 (record { pos = 1; st = []; d = 0; at = λ x. x }, (record { pos = 16; ty = S.tyRef S.erased S.imm PlaceKind.named; ref = λ x. x }, (record { pos = 4; st = []; d = 0; at = λ x. x }, (record { pos = 18; ty = S.tyRef S.erased S.imm (S.tyInt S.w8); ref = λ x. x }, (record { pos = 19; ty = S.tyRef S.erased S.mut (S.tyArray (S.tyInt S.w8) 65536); ref = λ x. x }, tt))))) (m26 (c .before .before) (c .before .out .given)) (c .answers)
 
-      abbrev pub m28 : (before : After-text) → (given : s30 (before .before .before .before .before .before .before .before .before .before .before .blocks) .gives (m26 (before .before) (before .text .given))) → Typed.Mo T36
+      abbrev pub m28 : (before : After-out) → (given : s30 (before .before .before .before .before .before .before .before .before .before .before .blocks) .gives (m26 (before .before) (before .out .given))) → Typed.Mo T36
       m28 = λ before given. s31 (before .before .before .before .before .before .before .before .before .before .before .blocks) (m27 before given)
 
-      abbrev pub m29 : (before : After-text) → (given : s30 (before .before .before .before .before .before .before .before .before .before .before .blocks) .gives (m26 (before .before) (before .text .given))) → Typed.Mo T37
+      abbrev pub m29 : (before : After-out) → (given : s30 (before .before .before .before .before .before .before .before .before .before .before .blocks) .gives (m26 (before .before) (before .out .given))) → Typed.Mo T37
       m29 = λ before given. s32 (before .before .before .before .before .before .before .before .before .before .before .blocks) (m28 before given)
 
-      abbrev pub m30 : (before : After-text) → (given : s30 (before .before .before .before .before .before .before .before .before .before .before .blocks) .gives (m26 (before .before) (before .text .given))) → Typed.Mo T38
+      abbrev pub m30 : (before : After-out) → (given : s30 (before .before .before .before .before .before .before .before .before .before .before .blocks) .gives (m26 (before .before) (before .out .given))) → Typed.Mo T38
       m30 = λ before given. s33 (before .before .before .before .before .before .before .before .before .before .before .blocks) (m29 before given)
 
-      abbrev pub m31 : (before : After-text) → (given : s30 (before .before .before .before .before .before .before .before .before .before .before .blocks) .gives (m26 (before .before) (before .text .given))) → Typed.Mo T40
+      abbrev pub m31 : (before : After-out) → (given : s30 (before .before .before .before .before .before .before .before .before .before .before .blocks) .gives (m26 (before .before) (before .out .given))) → Typed.Mo T40
       m31 = λ before given. s35 (before .before .before .before .before .before .before .before .before .before .before .blocks) (m30 before given)
 
-      abbrev pub m32 : (before : After-text) → (given : s30 (before .before .before .before .before .before .before .before .before .before .before .blocks) .gives (m26 (before .before) (before .text .given))) → Typed.Mo T42
+      abbrev pub m32 : (before : After-out) → (given : s30 (before .before .before .before .before .before .before .before .before .before .before .blocks) .gives (m26 (before .before) (before .out .given))) → Typed.Mo T42
       m32 = λ before given. s37 (before .before .before .before .before .before .before .before .before .before .before .blocks) (m31 before given)
 
-      abbrev pub m33 : (before : After-text) → (given : s30 (before .before .before .before .before .before .before .before .before .before .before .blocks) .gives (m26 (before .before) (before .text .given))) → Typed.Mo T44
+      abbrev pub m33 : (before : After-out) → (given : s30 (before .before .before .before .before .before .before .before .before .before .before .blocks) .gives (m26 (before .before) (before .out .given))) → Typed.Mo T44
       m33 = λ before given. s39 (before .before .before .before .before .before .before .before .before .before .before .blocks) .next (m32 before given)
 
       abbrev pub m34 : (before : After-answers) → (given : s41 (before .before .before .before .before .before .before .before .before .before .before .before .blocks) .gives (m33 (before .before) (After-answers·gave before))) → Typed.Mo T46
@@ -2224,54 +2224,54 @@ module _ (claims· : Claims) where
         pub before : After-answers
         pub begun : After-begun·own before
 
-      abbrev pub Need-array-share-prefix-text : Type 0
-      Need-array-share-prefix-text = (c : After-begun) → s45 (c .before .before .before .before .before .before .before .before .before .before .before .before .blocks) .asks (m36 (c .before) (c .begun .given))
+      abbrev pub Need-array-share-prefix-out : Type 0
+      Need-array-share-prefix-out = (c : After-begun) → s45 (c .before .before .before .before .before .before .before .before .before .before .before .before .blocks) .asks (m36 (c .before) (c .begun .given))
 
       abbrev pub m37 : (before : After-begun) → (given : s45 (before .before .before .before .before .before .before .before .before .before .before .before .before .blocks) .gives (m36 (before .before) (before .begun .given))) → Typed.Mo T50
       m37 = λ before given. s45 (before .before .before .before .before .before .before .before .before .before .before .before .before .blocks) .next (m36 (before .before) (before .begun .given)) given
 
       module _ (before· : After-begun) where
-        pub record After-text2·own : Type 0 where
+        pub record After-out2·own : Type 0 where
           pub given : s45 (before· .before .before .before .before .before .before .before .before .before .before .before .before .blocks) .gives (m36 (before· .before) (before· .begun .given))
 
-      pub record After-text2 : Type 0 where
+      pub record After-out2 : Type 0 where
         pub before : After-begun
-        pub text2 : After-text2·own before
+        pub out2 : After-out2·own before
 
       abbrev pub Need-slice-aggregate-write-all : Type 0
-      Need-slice-aggregate-write-all = (c : After-text2) → Relend.CountIs T50 20 21 (λ x. x) (λ u. u .1 .1 .1 .1 .1 .1 .1 .1 .1 .1 .0) (m37 (c .before) (c .text2 .given))
+      Need-slice-aggregate-write-all = (c : After-out2) → Relend.CountIs T50 20 21 (λ x. x) (λ u. u .1 .1 .1 .1 .1 .1 .1 .1 .1 .1 .0) (m37 (c .before) (c .out2 .given))
 
       abbrev pub m38 : (before : After-begun) → (given : s45 (before .before .before .before .before .before .before .before .before .before .before .before .before .blocks) .gives (m36 (before .before) (before .begun .given))) → Typed.Mo T51
       m38 = λ before given. s46 (before .before .before .before .before .before .before .before .before .before .before .before .before .blocks) .next (m37 before given)
 
       abbrev pub Need-write-all-requires : Type 0
-      Need-write-all-requires = (c : After-text2) → s47 (c .before .before .before .before .before .before .before .before .before .before .before .before .before .blocks) .asks (m38 (c .before) (c .text2 .given))
+      Need-write-all-requires = (c : After-out2) → s47 (c .before .before .before .before .before .before .before .before .before .before .before .before .before .blocks) .asks (m38 (c .before) (c .out2 .given))
 
-      abbrev pub m39 : (before : After-text2) → (given : s47 (before .before .before .before .before .before .before .before .before .before .before .before .before .before .blocks) .gives (m38 (before .before) (before .text2 .given))) → Typed.Mo T52
-      m39 = λ before given. s47 (before .before .before .before .before .before .before .before .before .before .before .before .before .before .blocks) .next (m38 (before .before) (before .text2 .given)) given
+      abbrev pub m39 : (before : After-out2) → (given : s47 (before .before .before .before .before .before .before .before .before .before .before .before .before .before .blocks) .gives (m38 (before .before) (before .out2 .given))) → Typed.Mo T52
+      m39 = λ before given. s47 (before .before .before .before .before .before .before .before .before .before .before .before .before .before .blocks) .next (m38 (before .before) (before .out2 .given)) given
 
-      module _ (before· : After-text2) where
+      module _ (before· : After-out2) where
         abbrev pub After-write-all·own : Type 0
-        After-write-all·own = Called.Called ps·4 r·4 (claims· .9) T51 (Num.vLit 1, (record { pos = 21; ty = S.tyRef S.erased S.imm (S.tyInt S.w8); ref = λ x. x }, tt)) (m38 (before· .before) (before· .text2 .given))
+        After-write-all·own = Called.Called ps·4 r·4 (claims· .9) T51 (Num.vLit 1, (record { pos = 21; ty = S.tyRef S.erased S.imm (S.tyInt S.w8); ref = λ x. x }, tt)) (m38 (before· .before) (before· .out2 .given))
 
       pub record After-write-all : Type 0 where
-        pub before : After-text2
+        pub before : After-out2
         pub write-all : After-write-all·own before
 
-      abbrev pub After-write-all·gave : (c : After-write-all) → s47 (c .before .before .before .before .before .before .before .before .before .before .before .before .before .before .blocks) .gives (m38 (c .before .before) (c .before .text2 .given))
-      After-write-all·gave = λ c. Called.given ps·4 r·4 (claims· .9) T51 (Num.vLit 1, (record { pos = 21; ty = S.tyRef S.erased S.imm (S.tyInt S.w8); ref = λ x. x }, tt)) (m38 (c .before .before) (c .before .text2 .given)) (c .write-all)
+      abbrev pub After-write-all·gave : (c : After-write-all) → s47 (c .before .before .before .before .before .before .before .before .before .before .before .before .before .before .blocks) .gives (m38 (c .before .before) (c .before .out2 .given))
+      After-write-all·gave = λ c. Called.given ps·4 r·4 (claims· .9) T51 (Num.vLit 1, (record { pos = 21; ty = S.tyRef S.erased S.imm (S.tyInt S.w8); ref = λ x. x }, tt)) (m38 (c .before .before) (c .before .out2 .given)) (c .write-all)
 
-      abbrev pub m40 : (before : After-text2) → (given : s47 (before .before .before .before .before .before .before .before .before .before .before .before .before .before .blocks) .gives (m38 (before .before) (before .text2 .given))) → Typed.Mo T53
+      abbrev pub m40 : (before : After-out2) → (given : s47 (before .before .before .before .before .before .before .before .before .before .before .before .before .before .blocks) .gives (m38 (before .before) (before .out2 .given))) → Typed.Mo T53
       m40 = λ before given. s48 (before .before .before .before .before .before .before .before .before .before .before .before .before .before .blocks) (m39 before given)
 
-      abbrev pub m41 : (before : After-text2) → (given : s47 (before .before .before .before .before .before .before .before .before .before .before .before .before .before .blocks) .gives (m38 (before .before) (before .text2 .given))) → Typed.Mo T55
+      abbrev pub m41 : (before : After-out2) → (given : s47 (before .before .before .before .before .before .before .before .before .before .before .before .before .before .blocks) .gives (m38 (before .before) (before .out2 .given))) → Typed.Mo T55
       m41 = λ before given. s50 (before .before .before .before .before .before .before .before .before .before .before .before .before .before .blocks) (m40 before given)
 
-      abbrev pub m42 : (before : After-text2) → (given : s47 (before .before .before .before .before .before .before .before .before .before .before .before .before .before .blocks) .gives (m38 (before .before) (before .text2 .given))) → Typed.Mo T57
+      abbrev pub m42 : (before : After-out2) → (given : s47 (before .before .before .before .before .before .before .before .before .before .before .before .before .before .blocks) .gives (m38 (before .before) (before .out2 .given))) → Typed.Mo T57
       m42 = λ before given. s52 (before .before .before .before .before .before .before .before .before .before .before .before .before .before .blocks) .next (m41 before given)
 
-      abbrev W6 : (before : After-text2) → (given : s47 (before .before .before .before .before .before .before .before .before .before .before .before .before .before .blocks) .gives (m38 (before .before) (before .text2 .given))) → Typed.Want O6
-      W6 = λ before given. Typed.wantNext T58 O3 (at28 (before .before .before .before .before .before .before .before .before .before .before .before .before .before .blocks) (W3 (before .before .before .before .before .before .before .before .before .before .before .before) (before .before .before .before .before .before .before .before .before .before .before .loop .begun) (before .before .before .before .before .before .before .before .before .before .before .loop .text) (before .before .before .before .before .before .before .before .before .before .before .loop .reads))) (W3 (before .before .before .before .before .before .before .before .before .before .before .before) (before .before .before .before .before .before .before .before .before .before .before .loop .begun) (before .before .before .before .before .before .before .before .before .before .before .loop .text) (before .before .before .before .before .before .before .before .before .before .before .loop .reads))
+      abbrev W6 : (before : After-out2) → (given : s47 (before .before .before .before .before .before .before .before .before .before .before .before .before .before .blocks) .gives (m38 (before .before) (before .out2 .given))) → Typed.Want O6
+      W6 = λ before given. Typed.wantNext T58 O3 (at28 (before .before .before .before .before .before .before .before .before .before .before .before .before .before .blocks) (W3 (before .before .before .before .before .before .before .before .before .before .before .before) (before .before .before .before .before .before .before .before .before .before .before .loop .begun) (before .before .before .before .before .before .before .before .before .before .before .loop .out) (before .before .before .before .before .before .before .before .before .before .before .loop .reads))) (W3 (before .before .before .before .before .before .before .before .before .before .before .before) (before .before .before .before .before .before .before .before .before .before .before .loop .begun) (before .before .before .before .before .before .before .before .before .before .before .loop .out) (before .before .before .before .before .before .before .before .before .before .before .loop .reads))
 
       abbrev pub m43 : (before : After-write-all) → Typed.Mo T59
       m43 = λ before. s53 (before .before .before .before .before .before .before .before .before .before .before .before .before .before .before .blocks) (m42 (before .before) (After-write-all·gave before))
@@ -2345,7 +2345,7 @@ module _ (claims· : Claims) where
       Need-loop-less = (c : Else2) → Nat._<_ (μ·0 (Row.get 1 (T6 .locals) (m5 (c .before .before .before .before .before .before .before .before .before .before .before .before .before .before) (After-large-buffer·gave (c .before .before .before .before .before .before .before .before .before .before .before .before .before)))) (Row.get 2 (T6 .locals) (m5 (c .before .before .before .before .before .before .before .before .before .before .before .before .before .before) (After-large-buffer·gave (c .before .before .before .before .before .before .before .before .before .before .before .before .before))) .now) (Row.get 3 (T6 .locals) (m5 (c .before .before .before .before .before .before .before .before .before .before .before .before .before .before) (After-large-buffer·gave (c .before .before .before .before .before .before .before .before .before .before .before .before .before)))) (Row.get 4 (T6 .locals) (m5 (c .before .before .before .before .before .before .before .before .before
           .before .before .before .before .before) (After-large-buffer·gave (c .before .before .before .before .before .before .before .before .before .before .before .before .before)))) (Row.get 5 (T6 .locals) (m5 (c .before .before .before .before .before .before .before .before .before .before .before .before .before .before) (After-large-buffer·gave (c .before .before .before .before .before .before .before .before .before .before .before .before .before)))) (Row.get 6 (T6 .locals) (m5 (c .before .before .before .before .before .before .before .before .before .before .before .before .before .before) (After-large-buffer·gave (c .before .before .before .before .before .before .before .before .before .before .before .before .before)))) (Row.get 4 (T6 .locals) (m57 (c .before))) (Row.get 5 (T6 .locals) (m57 (c .before))) (Row.get 6 (T6 .locals) (m57 (c .before)))) (μ·0 (Row.get 1 (T6 .locals) (m5 (c .before .before .before .before .before .before .before .before .before .before .before
           .before .before .before) (After-large-buffer·gave (c .before .before .before .before .before .before .before .before .before .before .before .before .before)))) (Row.get 2 (T6 .locals) (m5 (c .before .before .before .before .before .before .before .before .before .before .before .before .before .before) (After-large-buffer·gave (c .before .before .before .before .before .before .before .before .before .before .before .before .before))) .now) (Row.get 3 (T6 .locals) (m5 (c .before .before .before .before .before .before .before .before .before .before .before .before .before .before) (After-large-buffer·gave (c .before .before .before .before .before .before .before .before .before .before .before .before .before)))) (Row.get 4 (T6 .locals) (m5 (c .before .before .before .before .before .before .before .before .before .before .before .before .before .before) (After-large-buffer·gave (c .before .before .before .before .before .before .before .before .before .before .before
-          .before .before)))) (Row.get 5 (T6 .locals) (m5 (c .before .before .before .before .before .before .before .before .before .before .before .before .before .before) (After-large-buffer·gave (c .before .before .before .before .before .before .before .before .before .before .before .before .before)))) (Row.get 6 (T6 .locals) (m5 (c .before .before .before .before .before .before .before .before .before .before .before .before .before .before) (After-large-buffer·gave (c .before .before .before .before .before .before .before .before .before .before .before .before .before)))) (c .before .before .before .before .before .before .before .before .before .before .before .before .loop .begun) (c .before .before .before .before .before .before .before .before .before .before .before .before .loop .text) (c .before .before .before .before .before .before .before .before .before .before .before .before .loop .reads))
+          .before .before)))) (Row.get 5 (T6 .locals) (m5 (c .before .before .before .before .before .before .before .before .before .before .before .before .before .before) (After-large-buffer·gave (c .before .before .before .before .before .before .before .before .before .before .before .before .before)))) (Row.get 6 (T6 .locals) (m5 (c .before .before .before .before .before .before .before .before .before .before .before .before .before .before) (After-large-buffer·gave (c .before .before .before .before .before .before .before .before .before .before .before .before .before)))) (c .before .before .before .before .before .before .before .before .before .before .before .before .loop .begun) (c .before .before .before .before .before .before .before .before .before .before .before .before .loop .out) (c .before .before .before .before .before .before .before .before .before .before .before .before .loop .reads))
 
       abbrev pub Need-loop-again : Type 0
       Need-loop-again = (c : Else2) → Inv·0 (Row.get 1 (T6 .locals) (m5 (c .before .before .before .before .before .before .before .before .before .before .before .before .before .before) (After-large-buffer·gave (c .before .before .before .before .before .before .before .before .before .before .before .before .before)))) (Row.get 2 (T6 .locals) (m5 (c .before .before .before .before .before .before .before .before .before .before .before .before .before .before) (After-large-buffer·gave (c .before .before .before .before .before .before .before .before .before .before .before .before .before))) .now) (Row.get 3 (T6 .locals) (m5 (c .before .before .before .before .before .before .before .before .before .before .before .before .before .before) (After-large-buffer·gave (c .before .before .before .before .before .before .before .before .before .before .before .before .before)))) (Row.get 4 (T6 .locals) (m5 (c .before .before .before .before .before .before .before .before .before .before
@@ -2356,7 +2356,7 @@ module _ (claims· : Claims) where
         7,
         Rows'.any-gone
             (S.tyArray (S.tyInt S.w8) 1024),
-      ) tt (Row.setRow 5 (5, Rows'.any-gone (S.tyArray (S.tyInt S.w8) 65536)) (T8 .locals)) (Row.set 5 (5, Rows'.any-gone (S.tyArray (S.tyInt S.w8) 65536)) tt (T8 .locals) (m7 (before .before) (before .loop .begun) (before .loop .text) (before .loop .reads))))))
+      ) tt (Row.setRow 5 (5, Rows'.any-gone (S.tyArray (S.tyInt S.w8) 65536)) (T8 .locals)) (Row.set 5 (5, Rows'.any-gone (S.tyArray (S.tyInt S.w8) 65536)) tt (T8 .locals) (m7 (before .before) (before .loop .begun) (before .loop .out) (before .loop .reads))))))
 
       module _ (before· : At-loop) where
         pub record Left-loop·own : Type 0 where
@@ -2444,7 +2444,7 @@ module _ (claims· : Claims) where
       abbrev pub Need-returns-2 : Type 0
       Need-returns-2 = (c : After-print) → Post· (c .before .before .before .before .before .before .before .κs) (dens (c .before .before .before .before .before .before .before .κs) (c .before .before .before .before .before .before .before .args)) (Function.resV r (c .before .before .before .before .before .before .before .κs) (m70 (c .before) (After-print·gave c) .0)) (Clauses.atExit (Kinds.endedOf 1 ps r) (c .before .before .before .before .before .before .before .κs) (dens (c .before .before .before .before .before .before .before .κs) (c .before .before .before .before .before .before .before .args)) (Enter.lastsP (c .before .before .before .before .before .before .before .κs) 1 ps xs (dens (c .before .before .before .before .before .before .before .κs) (c .before .before .before .before .before .before .before .args)) (m70 (c .before) (After-print·gave c) .1)))
 
-      module _ (begin-requires : Need-begin-requires) (large-buffer-requires : Need-large-buffer-requires) (loop-holds : Need-loop-holds) (read-some-requires : Need-read-some-requires) (slice-aggregate-answers : Need-slice-aggregate-answers) (array-share-prefix-input : Need-array-share-prefix-input) (slice-aggregate-answers-2 : Need-slice-aggregate-answers-2) (answers-requires : Need-answers-requires) (array-share-prefix-text : Need-array-share-prefix-text) (slice-aggregate-write-all : Need-slice-aggregate-write-all) (write-all-requires : Need-write-all-requires) (returns : Need-returns) (sub-reads : Need-sub-reads) (loop-less : Need-loop-less) (loop-again : Need-loop-again) (slice-aggregate-finish : Need-slice-aggregate-finish) (finish-requires : Need-finish-requires) (print-requires : Need-print-requires) (returns-2 : Need-returns-2) where
+      module _ (begin-requires : Need-begin-requires) (large-buffer-requires : Need-large-buffer-requires) (loop-holds : Need-loop-holds) (read-some-requires : Need-read-some-requires) (slice-aggregate-answers : Need-slice-aggregate-answers) (array-share-prefix-input : Need-array-share-prefix-input) (slice-aggregate-answers-2 : Need-slice-aggregate-answers-2) (answers-requires : Need-answers-requires) (array-share-prefix-out : Need-array-share-prefix-out) (slice-aggregate-write-all : Need-slice-aggregate-write-all) (write-all-requires : Need-write-all-requires) (returns : Need-returns) (sub-reads : Need-sub-reads) (loop-less : Need-loop-less) (loop-again : Need-loop-again) (slice-aggregate-finish : Need-slice-aggregate-finish) (finish-requires : Need-finish-requires) (print-requires : Need-print-requires) (returns-2 : Need-returns-2) where
         lay15 : (c : After-print) → at79 (c .before .before .before .before .before .before .before .blocks) (W0 (c .before .before .before .before .before .before .before .κs) (c .before .before .before .before .before .before .before .args) (c .before .before .before .before .before .before .before .blocks)) (m65 (c .before) (After-print·gave c))
         lay15 = λ c. ((tt, (Path'.refl, (tt, tt))), returns-2 record { before = c .before; print = c .print })
 
@@ -2455,7 +2455,7 @@ module _ (claims· : Claims) where
         unfolding at86
         lay13 = λ c. λ g. (Relend.count-is T74 24 25 (λ x. x) (λ u. u .1 .1 .1 .0) (m59 record { before = c .before; loop-test = c .loop-test } g) (slice-aggregate-finish record { before = record { before = c .before; loop-test = c .loop-test }; finish-arg = record { given = g } }), (finish-requires record { before = record { before = c .before; loop-test = c .loop-test }; finish-arg = record { given = g } }, λ g'. lay14 record { before = record { before = record { before = c .before; loop-test = c .loop-test }; finish-arg = record { given = g } }; finish = Called.called ps·5 r·5 (claims· .11) T75 (record { pos = 1; st = []; d = 0; at = λ x. x }, (record { pos = 25; ty = S.tyRef S.erased S.imm PlaceKind.named; ref = λ x. x }, (record { pos = 4; st = []; d = 0; at = λ x. x }, tt))) (m60 record { before = c .before; loop-test = c .loop-test } g) g' }))
 
-        lay12 : (c : Else2) → at28 (c .before .before .before .before .before .before .before .before .before .before .before .before .before .before .before .blocks) (W3 (c .before .before .before .before .before .before .before .before .before .before .before .before .before) (c .before .before .before .before .before .before .before .before .before .before .before .before .loop .begun) (c .before .before .before .before .before .before .before .before .before .before .before .before .loop .text) (c .before .before .before .before .before .before .before .before .before .before .before .before .loop .reads)) (m53 (c .before))
+        lay12 : (c : Else2) → at28 (c .before .before .before .before .before .before .before .before .before .before .before .before .before .before .before .blocks) (W3 (c .before .before .before .before .before .before .before .before .before .before .before .before .before) (c .before .before .before .before .before .before .before .before .before .before .before .before .loop .begun) (c .before .before .before .before .before .before .before .before .before .before .before .before .loop .out) (c .before .before .before .before .before .before .before .before .before .before .before .before .loop .reads)) (m53 (c .before))
         lay12 = λ c. (
           sub-reads record { before = c .before; if2 = c .if2 },
           (
@@ -2478,29 +2478,29 @@ module _ (claims· : Claims) where
           ),
         )
 
-        lay11 : (c : After-write-all) → at34 (c .before .before .before .before .before .before .before .before .before .before .before .before .before .before .blocks) (W3 (c .before .before .before .before .before .before .before .before .before .before .before .before) (c .before .before .before .before .before .before .before .before .before .before .before .loop .begun) (c .before .before .before .before .before .before .before .before .before .before .before .loop .text) (c .before .before .before .before .before .before .before .before .before .before .before .loop .reads)) (m39 (c .before) (After-write-all·gave c))
+        lay11 : (c : After-write-all) → at34 (c .before .before .before .before .before .before .before .before .before .before .before .before .before .before .blocks) (W3 (c .before .before .before .before .before .before .before .before .before .before .before .before) (c .before .before .before .before .before .before .before .before .before .before .before .loop .begun) (c .before .before .before .before .before .before .before .before .before .before .before .loop .out) (c .before .before .before .before .before .before .before .before .before .before .before .loop .reads)) (m39 (c .before) (After-write-all·gave c))
         lay11 = λ c. (tt, (λ taken. ((tt, (Path'.refl, (tt, tt))), returns record { before = record { before = c .before; write-all = c .write-all }; if2 = record { taken = taken } }), λ left. lay12 record { before = record { before = c .before; write-all = c .write-all }; if2 = record { left = left } }))
 
-        lay10 : (c : After-answers) → at51 (c .before .before .before .before .before .before .before .before .before .before .before .blocks) (W3 (c .before .before .before .before .before .before .before .before .before) (c .before .before .before .before .before .before .before .before .loop .begun) (c .before .before .before .before .before .before .before .before .loop .text) (c .before .before .before .before .before .before .before .before .loop .reads)) (m27 (c .before) (After-answers·gave c))
+        lay10 : (c : After-answers) → at51 (c .before .before .before .before .before .before .before .before .before .before .before .blocks) (W3 (c .before .before .before .before .before .before .before .before .before) (c .before .before .before .before .before .before .before .before .loop .begun) (c .before .before .before .before .before .before .before .before .loop .out) (c .before .before .before .before .before .before .before .before .loop .reads)) (m27 (c .before) (After-answers·gave c))
         lay10 = λ c. (
           Path'.refl,
           (
             tt,
             λ g. (
-              array-share-prefix-text record { before = record { before = c .before; answers = c .answers }; begun = record { given = g } },
+              array-share-prefix-out record { before = record { before = c .before; answers = c .answers }; begun = record { given = g } },
               λ g'. (
-                Relend.count-is T50 20 21 (λ x. x) (λ u. u .1 .1 .1 .1 .1 .1 .1 .1 .1 .1 .0) (m37 record { before = record { before = c .before; answers = c .answers }; begun = record { given = g } } g') (slice-aggregate-write-all record { before = record { before = record { before = c .before; answers = c .answers }; begun = record { given = g } }; text2 = record { given = g' } }),
+                Relend.count-is T50 20 21 (λ x. x) (λ u. u .1 .1 .1 .1 .1 .1 .1 .1 .1 .1 .0) (m37 record { before = record { before = c .before; answers = c .answers }; begun = record { given = g } } g') (slice-aggregate-write-all record { before = record { before = record { before = c .before; answers = c .answers }; begun = record { given = g } }; out2 = record { given = g' } }),
                 (
-                  write-all-requires record { before = record { before = record { before = c .before; answers = c .answers }; begun = record { given = g } }; text2 = record { given = g' } },
+                  write-all-requires record { before = record { before = record { before = c .before; answers = c .answers }; begun = record { given = g } }; out2 = record { given = g' } },
                   λ g''. lay11 record {
-                    before = record { before = record { before = record { before = c .before; answers = c .answers }; begun = record { given = g } }; text2 = record { given = g' } };
+                    before = record { before = record { before = record { before = c .before; answers = c .answers }; begun = record { given = g } }; out2 = record { given = g' } };
                     write-all = Called.called ps·4 r·4 (claims· .9) T51 (
                       Num.vLit 1,
                       (
                         record {
                           pos = 21;
-                          ty =
-                              S.tyRef S.erased S.imm (S.tyInt S.w8);
+                          ty = S.tyRef
+                              S.erased S.imm (S.tyInt S.w8);
                           ref = λ x. x;
                         },
                         tt,
@@ -2513,7 +2513,7 @@ module _ (claims· : Claims) where
           ),
         )
 
-        lay9 : (c : Else1) → at59 (c .before .before .before .before .before .before .before .blocks) (W3 (c .before .before .before .before .before) (c .before .before .before .before .loop .begun) (c .before .before .before .before .loop .text) (c .before .before .before .before .loop .reads)) (m21 (c .before))
+        lay9 : (c : Else1) → at59 (c .before .before .before .before .before .before .before .blocks) (W3 (c .before .before .before .before .before) (c .before .before .before .before .loop .begun) (c .before .before .before .before .loop .out) (c .before .before .before .before .loop .reads)) (m21 (c .before))
         lay9 = λ c. λ g. (
           Relend.count-is T28 15 16 (λ x. x) (λ u. u .1 .1 .1 .0) (m22 record { before = c .before; if1 = c .if1 } g) (slice-aggregate-answers record { before = record { before = c .before; if1 = c .if1 }; answers-arg = record { given = g } }),
           (
@@ -2521,9 +2521,9 @@ module _ (claims· : Claims) where
             λ g'. (
               Relend.count-is T31 17 18 (λ x. x) (λ u. u .1 .1 .1 .1 .1 .1 .1 .1 .0) (m24 record { before = record { before = c .before; if1 = c .if1 }; answers-arg = record { given = g } } g') (slice-aggregate-answers-2 record { before = record { before = record { before = c .before; if1 = c .if1 }; answers-arg = record { given = g } }; input2 = record { given = g' } }),
               λ g''. (
-                answers-requires record { before = record { before = record { before = record { before = c .before; if1 = c .if1 }; answers-arg = record { given = g } }; input2 = record { given = g' } }; text = record { given = g'' } },
+                answers-requires record { before = record { before = record { before = record { before = c .before; if1 = c .if1 }; answers-arg = record { given = g } }; input2 = record { given = g' } }; out = record { given = g'' } },
                 λ g'3. lay10 record {
-                  before = record { before = record { before = record { before = record { before = c .before; if1 = c .if1 }; answers-arg = record { given = g } }; input2 = record { given = g' } }; text = record { given = g'' } };
+                  before = record { before = record { before = record { before = record { before = c .before; if1 = c .if1 }; answers-arg = record { given = g } }; input2 = record { given = g' } }; out = record { given = g'' } };
                   answers = Called.called ps·3 r·3 (claims· .7) T34 (record { pos = 1; st = []; d = 0; at = λ x. x }, (record { pos = 16; ty = S.tyRef S.erased S.imm PlaceKind.named; ref = λ x. x }, (record { pos = 4; st = []; d = 0; at = λ x. x }, (record { pos = 18; ty = S.tyRef S.erased S.imm (S.tyInt S.w8); ref = λ x. x }, (record { pos = 19; ty = S.tyRef S.erased S.mut (S.tyArray (S.tyInt S.w8) 65536); ref = λ x. x }, tt))))) (m26 record { before = record { before = record { before = c .before; if1 = c .if1 }; answers-arg = record { given = g } }; input2 = record { given = g' } } g'') g'3;
                 },
               ),
@@ -2537,16 +2537,16 @@ module _ (claims· : Claims) where
         lay7 : (c : Then1) → at10 (c .before .before .before .before .before .before .before .blocks) (W5 (c .before .before) (After-read-some·gave (c .before))) (m16 (c .before .before) (After-read-some·gave (c .before)))
         lay7 = λ c. lay13 record { before = record { before = c .before .before .before .before .before; loop = c .before .before .before .before .loop }; loop-test = record { came = Logic.inr (c .before .before .before .loop-test, c .before .before .input, c .before .read-some, c .if1) } }
 
-        lay6 : (c : After-read-some) → at64 (c .before .before .before .before .before .before .blocks) (W3 (c .before .before .before .before) (c .before .before .before .loop .begun) (c .before .before .before .loop .text) (c .before .before .before .loop .reads)) (m14 (c .before) (After-read-some·gave c))
+        lay6 : (c : After-read-some) → at64 (c .before .before .before .before .before .before .blocks) (W3 (c .before .before .before .before) (c .before .before .before .loop .begun) (c .before .before .before .loop .out) (c .before .before .before .loop .reads)) (m14 (c .before) (After-read-some·gave c))
         lay6 = λ c. (Path'.refl, (tt, (λ taken. lay7 record { before = record { before = c .before; read-some = c .read-some }; if1 = record { taken = Tests.eqb-true (Row.get 8 (T19 .locals) (m15 (c .before) (After-read-some·gave c))) 0 taken } }, λ left. lay8 record { before = record { before = c .before; read-some = c .read-some }; if1 = record { left = Tests.eqb-false (Row.get 8 (T19 .locals) (m15 (c .before) (After-read-some·gave c))) 0 left } })))
 
-        lay5 : (c : In-loop) → at69 (c .before .before .before .before .blocks) (W3 (c .before .before) (c .before .loop .begun) (c .before .loop .text) (c .before .loop .reads)) (m8 (c .before))
+        lay5 : (c : In-loop) → at69 (c .before .before .before .before .blocks) (W3 (c .before .before) (c .before .loop .begun) (c .before .loop .out) (c .before .loop .reads)) (m8 (c .before))
         lay5 = λ c. λ g. (read-some-requires record { before = record { before = c .before; loop-test = c .loop-test }; input = record { given = g } }, λ g'. lay6 record { before = record { before = record { before = c .before; loop-test = c .loop-test }; input = record { given = g } }; read-some = Called.called ps·2 r·2 (claims· .5) T16 (record { pos = 14; ty = S.tyRef S.erased S.mut (S.tyArray (S.tyInt S.w8) 1024); ref = λ x. x }, tt) (m13 record { before = c .before; loop-test = c .loop-test } g) g' })
 
-        lay4 : (c : After-loop) → at4 (c .before .before .before .before .blocks) (W4 (c .before .before) (c .before .loop .begun) (c .before .loop .text) (c .before .loop .reads)) (m7 (c .before .before) (c .before .loop .begun) (c .before .loop .text) (c .before .loop .reads))
+        lay4 : (c : After-loop) → at4 (c .before .before .before .before .blocks) (W4 (c .before .before) (c .before .loop .begun) (c .before .loop .out) (c .before .loop .reads)) (m7 (c .before .before) (c .before .loop .begun) (c .before .loop .out) (c .before .loop .reads))
         lay4 = λ c. lay13 record { before = record { before = c .before .before; loop = c .before .loop }; loop-test = record { came = Logic.inl (c .loop-test) } }
 
-        lay3 : (c : In-loop) → at1 (c .before .before .before .before .blocks) (W4 (c .before .before) (c .before .loop .begun) (c .before .loop .text) (c .before .loop .reads)) (m7 (c .before .before) (c .before .loop .begun) (c .before .loop .text) (c .before .loop .reads))
+        lay3 : (c : In-loop) → at1 (c .before .before .before .before .blocks) (W4 (c .before .before) (c .before .loop .begun) (c .before .loop .out) (c .before .loop .reads)) (m7 (c .before .before) (c .before .loop .begun) (c .before .loop .out) (c .before .loop .reads))
         lay3 = λ c. lay5 record { before = c .before; loop-test = c .loop-test }
 
         lay2 : (c : After-large-buffer) → at90 (c .before .before .blocks) (W0 (c .before .before .κs) (c .before .before .args) (c .before .before .blocks)) (m2 (c .before) (After-large-buffer·gave c))
@@ -2555,9 +2555,9 @@ module _ (claims· : Claims) where
           λ vs inv. (
             tt,
             (
-              λ taken. lay3 record { before = record { before = record { before = c .before; large-buffer = c .large-buffer }; loop = record { begun = vs .0; text = vs .1; reads = vs .2; inv = inv } }; loop-test = record { taken = Tests.ltb-true 0 (Row.get 6 (T6 .locals) (m6 record { before = c .before; large-buffer = c .large-buffer } (vs .0) (vs .1) (vs .2))) taken } },
+              λ taken. lay3 record { before = record { before = record { before = c .before; large-buffer = c .large-buffer }; loop = record { begun = vs .0; out = vs .1; reads = vs .2; inv = inv } }; loop-test = record { taken = Tests.ltb-true 0 (Row.get 6 (T6 .locals) (m6 record { before = c .before; large-buffer = c .large-buffer } (vs .0) (vs .1) (vs .2))) taken } },
               λ left. lay4 record {
-                before = record { before = record { before = c .before; large-buffer = c .large-buffer }; loop = record { begun = vs .0; text = vs .1; reads = vs .2; inv = inv } };
+                before = record { before = record { before = c .before; large-buffer = c .large-buffer }; loop = record { begun = vs .0; out = vs .1; reads = vs .2; inv = inv } };
                 loop-test = record {
                   left = Tests.ltb-false 0 (Row.get 6 (T6
                       .locals) (m6 record { before = c .before; large-buffer = c .large-buffer } (vs .0) (vs .1) (vs .2))) left;

@@ -71,8 +71,8 @@ After-answers-arg = λ Inv μ. Lts.After-answers-arg (Reads'3.Asked, Reads'3.Lea
 abbrev pub After-input2 : (Inv : InvT-loop) → (μ : MeasureT-loop) → Type 0
 After-input2 = λ Inv μ. Lts.After-input2 (Reads'3.Asked, Reads'3.Learnt, Reads.Asked, Reads.Learnt, Reads'7.Asked, Reads'7.Learnt, Reads''.Asked, Reads''.Learnt, Reads'.Asked, Reads'.Learnt, Reads'4.Asked, Reads'4.Learnt, Reads'6.Asked, Reads'6.Learnt) Reads'5.Pre Reads'5.Post Inv μ
 
-abbrev pub After-text : (Inv : InvT-loop) → (μ : MeasureT-loop) → Type 0
-After-text = λ Inv μ. Lts.After-text (Reads'3.Asked, Reads'3.Learnt, Reads.Asked, Reads.Learnt, Reads'7.Asked, Reads'7.Learnt, Reads''.Asked, Reads''.Learnt, Reads'.Asked, Reads'.Learnt, Reads'4.Asked, Reads'4.Learnt, Reads'6.Asked, Reads'6.Learnt) Reads'5.Pre Reads'5.Post Inv μ
+abbrev pub After-out : (Inv : InvT-loop) → (μ : MeasureT-loop) → Type 0
+After-out = λ Inv μ. Lts.After-out (Reads'3.Asked, Reads'3.Learnt, Reads.Asked, Reads.Learnt, Reads'7.Asked, Reads'7.Learnt, Reads''.Asked, Reads''.Learnt, Reads'.Asked, Reads'.Learnt, Reads'4.Asked, Reads'4.Learnt, Reads'6.Asked, Reads'6.Learnt) Reads'5.Pre Reads'5.Post Inv μ
 
 abbrev pub After-answers : (Inv : InvT-loop) → (μ : MeasureT-loop) → Type 0
 After-answers = λ Inv μ. Lts.After-answers (Reads'3.Asked, Reads'3.Learnt, Reads.Asked, Reads.Learnt, Reads'7.Asked, Reads'7.Learnt, Reads''.Asked, Reads''.Learnt, Reads'.Asked, Reads'.Learnt, Reads'4.Asked, Reads'4.Learnt, Reads'6.Asked, Reads'6.Learnt) Reads'5.Pre Reads'5.Post Inv μ
@@ -80,8 +80,8 @@ After-answers = λ Inv μ. Lts.After-answers (Reads'3.Asked, Reads'3.Learnt, Rea
 abbrev pub After-begun : (Inv : InvT-loop) → (μ : MeasureT-loop) → Type 0
 After-begun = λ Inv μ. Lts.After-begun (Reads'3.Asked, Reads'3.Learnt, Reads.Asked, Reads.Learnt, Reads'7.Asked, Reads'7.Learnt, Reads''.Asked, Reads''.Learnt, Reads'.Asked, Reads'.Learnt, Reads'4.Asked, Reads'4.Learnt, Reads'6.Asked, Reads'6.Learnt) Reads'5.Pre Reads'5.Post Inv μ
 
-abbrev pub After-text2 : (Inv : InvT-loop) → (μ : MeasureT-loop) → Type 0
-After-text2 = λ Inv μ. Lts.After-text2 (Reads'3.Asked, Reads'3.Learnt, Reads.Asked, Reads.Learnt, Reads'7.Asked, Reads'7.Learnt, Reads''.Asked, Reads''.Learnt, Reads'.Asked, Reads'.Learnt, Reads'4.Asked, Reads'4.Learnt, Reads'6.Asked, Reads'6.Learnt) Reads'5.Pre Reads'5.Post Inv μ
+abbrev pub After-out2 : (Inv : InvT-loop) → (μ : MeasureT-loop) → Type 0
+After-out2 = λ Inv μ. Lts.After-out2 (Reads'3.Asked, Reads'3.Learnt, Reads.Asked, Reads.Learnt, Reads'7.Asked, Reads'7.Learnt, Reads''.Asked, Reads''.Learnt, Reads'.Asked, Reads'.Learnt, Reads'4.Asked, Reads'4.Learnt, Reads'6.Asked, Reads'6.Learnt) Reads'5.Pre Reads'5.Post Inv μ
 
 abbrev pub After-write-all : (Inv : InvT-loop) → (μ : MeasureT-loop) → Type 0
 After-write-all = λ Inv μ. Lts.After-write-all (Reads'3.Asked, Reads'3.Learnt, Reads.Asked, Reads.Learnt, Reads'7.Asked, Reads'7.Learnt, Reads''.Asked, Reads''.Learnt, Reads'.Asked, Reads'.Learnt, Reads'4.Asked, Reads'4.Learnt, Reads'6.Asked, Reads'6.Learnt) Reads'5.Pre Reads'5.Post Inv μ
@@ -128,8 +128,8 @@ Need-slice-aggregate-answers-2 = λ Inv μ. Lts.Need-slice-aggregate-answers-2 (
 abbrev pub Need-answers-requires : (Inv : InvT-loop) → (μ : MeasureT-loop) → Type 0
 Need-answers-requires = λ Inv μ. Lts.Need-answers-requires (Reads'3.Asked, Reads'3.Learnt, Reads.Asked, Reads.Learnt, Reads'7.Asked, Reads'7.Learnt, Reads''.Asked, Reads''.Learnt, Reads'.Asked, Reads'.Learnt, Reads'4.Asked, Reads'4.Learnt, Reads'6.Asked, Reads'6.Learnt) Reads'5.Pre Reads'5.Post Inv μ
 
-abbrev pub Need-array-share-prefix-text : (Inv : InvT-loop) → (μ : MeasureT-loop) → Type 0
-Need-array-share-prefix-text = λ Inv μ. Lts.Need-array-share-prefix-text (Reads'3.Asked, Reads'3.Learnt, Reads.Asked, Reads.Learnt, Reads'7.Asked, Reads'7.Learnt, Reads''.Asked, Reads''.Learnt, Reads'.Asked, Reads'.Learnt, Reads'4.Asked, Reads'4.Learnt, Reads'6.Asked, Reads'6.Learnt) Reads'5.Pre Reads'5.Post Inv μ
+abbrev pub Need-array-share-prefix-out : (Inv : InvT-loop) → (μ : MeasureT-loop) → Type 0
+Need-array-share-prefix-out = λ Inv μ. Lts.Need-array-share-prefix-out (Reads'3.Asked, Reads'3.Learnt, Reads.Asked, Reads.Learnt, Reads'7.Asked, Reads'7.Learnt, Reads''.Asked, Reads''.Learnt, Reads'.Asked, Reads'.Learnt, Reads'4.Asked, Reads'4.Learnt, Reads'6.Asked, Reads'6.Learnt) Reads'5.Pre Reads'5.Post Inv μ
 
 abbrev pub Need-slice-aggregate-write-all : (Inv : InvT-loop) → (μ : MeasureT-loop) → Type 0
 Need-slice-aggregate-write-all = λ Inv μ. Lts.Need-slice-aggregate-write-all (Reads'3.Asked, Reads'3.Learnt, Reads.Asked, Reads.Learnt, Reads'7.Asked, Reads'7.Learnt, Reads''.Asked, Reads''.Learnt, Reads'.Asked, Reads'.Learnt, Reads'4.Asked, Reads'4.Learnt, Reads'6.Asked, Reads'6.Learnt) Reads'5.Pre Reads'5.Post Inv μ
@@ -162,7 +162,7 @@ abbrev pub Need-returns-2 : (Inv : InvT-loop) → (μ : MeasureT-loop) → Type 
 Need-returns-2 = λ Inv μ. Lts.Need-returns-2 (Reads'3.Asked, Reads'3.Learnt, Reads.Asked, Reads.Learnt, Reads'7.Asked, Reads'7.Learnt, Reads''.Asked, Reads''.Learnt, Reads'.Asked, Reads'.Learnt, Reads'4.Asked, Reads'4.Learnt, Reads'6.Asked, Reads'6.Learnt) Reads'5.Pre Reads'5.Post Inv μ
 
 module _ {M : Type 1} where
-  pub spec : (Inv : InvT-loop) → (μ : MeasureT-loop) → (answer : Need-begin-requires Inv μ) → (answer : Need-large-buffer-requires Inv μ) → (answer : Need-loop-holds Inv μ) → (answer : Need-read-some-requires Inv μ) → (answer : Need-slice-aggregate-answers Inv μ) → (answer : Need-array-share-prefix-input Inv μ) → (answer : Need-slice-aggregate-answers-2 Inv μ) → (answer : Need-answers-requires Inv μ) → (answer : Need-array-share-prefix-text Inv μ) → (answer : Need-slice-aggregate-write-all Inv μ) → (answer : Need-write-all-requires Inv μ) → (answer : Need-returns Inv μ) → (answer : Need-sub-reads Inv μ) → (answer : Need-loop-less Inv μ) → (answer : Need-loop-again Inv μ) → (answer : Need-slice-aggregate-finish Inv μ) → (answer : Need-finish-requires Inv μ) → (answer : Need-print-requires Inv μ) → (answer : Need-returns-2 Inv μ) → Lts.Closed (
+  pub spec : (Inv : InvT-loop) → (μ : MeasureT-loop) → (answer : Need-begin-requires Inv μ) → (answer : Need-large-buffer-requires Inv μ) → (answer : Need-loop-holds Inv μ) → (answer : Need-read-some-requires Inv μ) → (answer : Need-slice-aggregate-answers Inv μ) → (answer : Need-array-share-prefix-input Inv μ) → (answer : Need-slice-aggregate-answers-2 Inv μ) → (answer : Need-answers-requires Inv μ) → (answer : Need-array-share-prefix-out Inv μ) → (answer : Need-slice-aggregate-write-all Inv μ) → (answer : Need-write-all-requires Inv μ) → (answer : Need-returns Inv μ) → (answer : Need-sub-reads Inv μ) → (answer : Need-loop-less Inv μ) → (answer : Need-loop-again Inv μ) → (answer : Need-slice-aggregate-finish Inv μ) → (answer : Need-finish-requires Inv μ) → (answer : Need-print-requires Inv μ) → (answer : Need-returns-2 Inv μ) → Lts.Closed (
     Reads'3.Asked,
     Reads'3.Learnt,
     Reads.Asked,

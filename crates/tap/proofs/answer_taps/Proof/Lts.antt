@@ -20,7 +20,6 @@ use borrow.Fn.Function
 use borrow.Fn.Kinds
 use borrow.Fn.Plain
 use borrow.Kind.Array
-use borrow.Kind.Bool
 use borrow.Kind.MutSlice
 use borrow.Kind.Num
 use borrow.Kind.ShrSlice
@@ -81,7 +80,7 @@ abbrev pub r : Kinds.RK 1
 r = Unit'.rUnit
 
 abbrev pub xs : List S.Ty
-xs = S.tyArray PlaceLaws.mir 1000 ∷ Laws.mir ∷ S.tyInt S.w64 ∷ Laws''.mir ∷ Laws'.mir ∷ S.tyInt S.w64 ∷ S.tyArray PlaceLaws.mir 1000 ∷ S.tyRef S.erased S.mut (S.tyArray PlaceKind.named 1000) ∷ S.tyStruct (38 ∷ 91 ∷ 93 ∷ []) (S.tcons (S.tyRef S.erased S.mut PlaceKind.named) (S.tcons (S.tyInt S.w64) S.tnil)) ∷ S.tyUnit ∷ S.tyRef S.erased S.imm (S.tyArray PlaceKind.named 1000) ∷ S.tyStruct (38 ∷ 91 ∷ 93 ∷ []) (S.tcons (S.tyRef S.erased S.imm PlaceKind.named) (S.tcons (S.tyInt S.w64) S.tnil)) ∷ S.tyBool ∷ Laws'3.mir ∷ []
+xs = S.tyArray PlaceLaws.mir 1000 ∷ Laws.mir ∷ S.tyInt S.w64 ∷ Laws''.mir ∷ Laws'.mir ∷ S.tyInt S.w64 ∷ S.tyArray PlaceLaws.mir 1000 ∷ S.tyRef S.erased S.mut (S.tyArray PlaceKind.named 1000) ∷ S.tyStruct (38 ∷ 91 ∷ 93 ∷ []) (S.tcons (S.tyRef S.erased S.mut PlaceKind.named) (S.tcons (S.tyInt S.w64) S.tnil)) ∷ S.tyUnit ∷ S.tyRef S.erased S.imm (S.tyArray PlaceKind.named 1000) ∷ S.tyStruct (38 ∷ 91 ∷ 93 ∷ []) (S.tcons (S.tyRef S.erased S.imm PlaceKind.named) (S.tcons (S.tyInt S.w64) S.tnil)) ∷ S.tyUnit ∷ Laws'3.mir ∷ []
 
 abbrev pub m : Nat.ℕ
 m = 2
@@ -114,7 +113,7 @@ abbrev pub ps·4 : List (Kinds.PK 0)
 ps·4 = (Value.pVal record { ty = Declared'.row Line.the-type; one = Path'.refl; val = Laws'5.val Line.the-type Laws'3.the-laws; tells = Laws'5.tells Line.the-type Laws'3.the-laws; still = Laws'5.still Line.the-type Laws'3.the-copy Exit.yes; row = Rows'.whole (Declared'.row Line.the-type); rd = λ x. x; mk = λ x. x } λ M 𝓤 H A W. record { copies = Laws'5.copy Line.the-type Laws'3.the-copy 𝓤 H A W; lawful = Laws'5.lawful Line.the-type Laws'3.the-laws 𝓤 H A W; makes = Laws'5.makes Line.the-type Laws'3.the-plain 𝓤 H A; in-mem = Local.mem-whole 𝓤 H A W (Declared'.row Line.the-type); of-mem = Local.whole-mem 𝓤 H A W (Declared'.row Line.the-type) }) ∷ []
 
 abbrev pub r·4 : Kinds.RK 0
-r·4 = Bool.rBool
+r·4 = Unit'.rUnit
 
 abbrev pub hs : List S.Home
 hs = S.valueLocal ∷ S.valueLocal ∷ S.memorySlot ∷ S.valueLocal ∷ S.valueLocal ∷ S.valueLocal ∷ S.valueLocal ∷ S.valueLocal ∷ S.valueLocal ∷ S.valueLocal ∷ S.valueLocal ∷ S.valueLocal ∷ S.valueLocal ∷ S.valueLocal ∷ S.valueLocal ∷ S.valueLocal ∷ []
@@ -223,7 +222,7 @@ t0 = (0, Rows'.any-gone S.tyUnit) ∷ (1, Rows'.sslice (Referent.rtF (Referent.f
   13,
   Rows'.any-gone (S.tyStruct (38 ∷ 91 ∷ 93 ∷ []) (S.tcons (S.tyRef
       S.erased S.imm PlaceKind.named) (S.tcons (S.tyInt S.w64) S.tnil))),
-) ∷ (14, Rows'.any-gone S.tyBool) ∷ (15, Rows'.any-gone Laws'3.mir) ∷ []
+) ∷ (14, Rows'.any-gone S.tyUnit) ∷ (15, Rows'.any-gone Laws'3.mir) ∷ []
 
 abbrev pub t1 : List Row.Entry
 t1 = Row.setRow 0 (0, Rows'.sc-here Row.sUnit) t0
@@ -304,13 +303,13 @@ abbrev pub t26 : List Row.Entry
 t26 = Row.setRow 6 (6, Rows'.any-gone Laws'.mir) t25
 
 abbrev pub t27 : List Row.Entry
-t27 = Row.setRow 14 (14, Rows'.sc-here Row.sBool) t26
+t27 = Row.setRow 14 (14, Rows'.sc-here Row.sUnit) t26
 
 abbrev pub t28 : List Row.Entry
 t28 = Row.setRow 7 (7, Rows'.any-gone (S.tyInt S.w64)) t27
 
 abbrev pub t29 : List Row.Entry
-t29 = Row.setRow 14 (14, Rows'.any-gone S.tyBool) t28
+t29 = Row.setRow 14 (14, Rows'.any-gone S.tyUnit) t28
 
 abbrev pub T : List Row.Entry → Row.Cx
 T t = record { locals = t; slots = [] }
@@ -413,13 +412,13 @@ module _ (claims· : Claims) where
   s35 = λ bs. Scalar.n-room (T t25) 6 Laws'.mir
 
   abbrev s36 : (bs : List Nat.ℕ) → Typed.Both (T t26) (T t27)
-  s36 = λ bs. Call.callB ps·4 r·4 (claims· .8) (claims· .9) (T t26) (record { pos = 15; st = []; d = 0; at = λ x. x }, tt) 14 [] S.tyBool
+  s36 = λ bs. Call.callB ps·4 r·4 (claims· .8) (claims· .9) (T t26) (record { pos = 15; st = []; d = 0; at = λ x. x }, tt) 14 [] S.tyUnit
 
   abbrev s37 : (bs : List Nat.ℕ) → Typed.Mo (T t27) → Typed.Mo (T t28)
   s37 = λ bs. Scalar.n-room (T t27) 7 (S.tyInt S.w64)
 
   abbrev s38 : (bs : List Nat.ℕ) → Typed.Mo (T t28) → Typed.Mo (T t29)
-  s38 = λ bs. Scalar.n-room (T t28) 14 S.tyBool
+  s38 = λ bs. Scalar.n-room (T t28) 14 S.tyUnit
 
   abbrev s39 : (bs : List Nat.ℕ) → Typed.Mo (T t29) → Typed.Mo (T t0)
   s39 = λ bs. Scalar.n-room (T t29) 15 Laws'3.mir
@@ -655,7 +654,7 @@ module _ (claims· : Claims) where
               Path'.refl,
             ),
             tt,
-          ) (Reads.room-gone 𝓤 H A S.tyBool) tt Path'.refl) (Scalar.g-room 𝓤 H A W E (G t27) 7 (S.tyInt S.w64) (Scalar.room-sc 𝓤 H A W (Row.sInt S.w64)))) (Scalar.g-room 𝓤 H A W E (G t28) 14 S.tyBool (Scalar.room-sc 𝓤 H A W Row.sBool))) (Scalar.g-room 𝓤 H A W E (G t29) 15 Laws'3.mir (Local.room-whole 𝓤 H A W (Declared'.row Line.the-type) Laws'3.mir Path'.refl)))
+          ) (Reads.room-gone 𝓤 H A S.tyUnit) tt Path'.refl) (Scalar.g-room 𝓤 H A W E (G t27) 7 (S.tyInt S.w64) (Scalar.room-sc 𝓤 H A W (Row.sInt S.w64)))) (Scalar.g-room 𝓤 H A W E (G t28) 14 S.tyUnit (Scalar.room-sc 𝓤 H A W Row.sUnit))) (Scalar.g-room 𝓤 H A W E (G t29) 15 Laws'3.mir (Local.room-whole 𝓤 H A W (Declared'.row Line.the-type) Laws'3.mir Path'.refl)))
 
           d10 : Typed.Typed 𝓤 H A 𝓣 E (G t25) b17 Δ1 (at10 bs)
           d10 = Typed.g-pre 𝓤 H A W 𝓣 E _ _ _ _ _ _ (Scalar.g-room 𝓤 H A W E (G t25) 6 Laws'.mir (Local.room-whole 𝓤 H A W (Declared.row Refusal.the-type) Laws'.mir Path'.refl)) d9
