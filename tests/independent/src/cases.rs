@@ -197,7 +197,7 @@ pub fn good_sheet(random: &mut Random) -> Sheet {
     }
 }
 
-/// A sheet of the given one with a limit reached or just broken.
+/// The sheets that a good one gives with a limit reached or just broken.
 pub fn limit_sheets(s: &Sheet) -> Vec<Sheet> {
     let mut sheets = Vec::new();
     let mut with = |change: &dyn Fn(&mut Sheet, i128), values: &[i128]| {
@@ -329,7 +329,7 @@ pub fn any_sheet(random: &mut Random) -> Sheet {
     Sheet::from_numbers(numbers)
 }
 
-/// A good sheet with one of its numbers changed.
+/// A good sheet with one of its numbers changed, or more; it may still be good.
 pub fn changed_sheet(random: &mut Random) -> Sheet {
     let s = good_sheet(random);
     let choices = if random.once_in(2) {
@@ -502,7 +502,7 @@ pub fn any_place(random: &mut Random) -> Place {
     }
 }
 
-/// A place with one fault of one kind.
+/// A place with a fault of one kind, mostly.
 pub fn damage_place(random: &mut Random, s: &Sheet, place: &mut Place) {
     match random.index(12) {
         0 => place.id = random.pick(&[0, 1, place.id.wrapping_sub(1), place.id / 2]),

@@ -197,6 +197,18 @@ impl Exact {
         }
     }
 
+    /// Whether the exact sine and cosine of 60 degrees are what document 01's
+    /// pi and powers give, worked out elsewhere to 30 digits.
+    pub fn known_values_hold(&self) -> bool {
+        let a = Whole::new(60_000_000)
+            .mul(&Whole::new(PI))
+            .mul(&Whole::new(ONE));
+        let r = 10i128.pow(30);
+        let sine = 866_025_403_784_438_646_686_727_464_771;
+        let cosine = 500_000_000_000_000_000_133_548_774_077;
+        self.sine.units_off(sine, r, &a) == 0 && self.cosine.units_off(cosine, r, &a) == 0
+    }
+
     /// By how many whole units x and y are off the exact X and Y: 0, 1, 2,
     /// or 3 for 3 units and more.
     pub fn units_off(

@@ -556,6 +556,7 @@ fn tap_answer(s: &Sheet, places: &[Place], line: &[u8]) -> Answer<String> {
     let id = match nearest(places, x, y, USUAL_REACH) {
         Ok(position) => places[position].id.to_string(),
         Err(13) => "-".to_string(),
+        // Not reached: inverse has the same range.
         Err(number) => return Err(number),
     };
     Ok(format!("{latitude} {longitude} {id}\n"))

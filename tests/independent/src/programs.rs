@@ -282,7 +282,7 @@ pub fn lister(program: &Path) -> Compared {
     let read = same.stream_position().map_err(error)?;
     l.tally
         .holds(3, read == 37_043, || format!("{read} bytes are read"))?;
-    // Extreme numbers as text
+    // The least and the largest id, and the least longitude, as text
     let sheet = Sheet {
         m0: -180_000_000,
         ..A
