@@ -1,6 +1,6 @@
 -- What the range of a value closes: that it fits its type, that it is a plain number, its bounds, what a test says, a cast. Assumes nothing.
 -- `fits (search ranges depth 9) tt` answers the need of a sum, a difference, a product or a cast between signed types, `div-fits` that of a division, and `plain` that a result is what the contract says.
-use mathlib.Core.Path.{_≡_, refl, sym, _∙_, ap, subst}
+use mathlib.Core.Path.{_≡_, sym, _∙_, ap, subst}
 use mathlib.Core.Bool.{Bool, true, false, _&&_, true≢false}
 use Prim.Native.Nat.{ℕ, _-_, _<_, _^_}
 use lib.Dec.{T, ltb, ltb→lt, eqb}
@@ -11,6 +11,7 @@ use lib.Pow.{pow-pos, le-ones}
 use mir.Syntax.{Width}
 use mir.Val.{SFits, Fits, bits, hbits, toZ, ofZ}
 use mir.Facts.{toZ-ofZ, and-yes}
+use Rattle.arith.proofs.Choose.{by-test}
 use Rattle.arith.proofs.Parts.{linear}
 use Rattle.arith.specs.Bounds.{isWithin}
 use Rattle.arith.proofs.Order.{≤ℤ-trans, ≤ℤ-antisymm, within-true, true-within, lt-true, lt-false, le-true, le-false}
@@ -85,15 +86,12 @@ eq-no w k p = k (ap (ofZ w) p)
 
 -- the same of the test as a value: `a == b` is what `isWithin b b a` tests
 pub eq-same : {w : Width} {a b : ℤ} → SFits w a → SFits w b → eqb (ofZ w a) (ofZ w b) ≡ isWithin b b a
-eq-same {w} {a} {b} f g = by-test (isWithin b b a) refl
-  where
-    by-test : (t : Bool) → isWithin b b a ≡ t → eqb (ofZ w a) (ofZ w b) ≡ isWithin b b a
-    by-test true e = let h = within-true {lo = b} {hi = b} {z = a} e in eq-eqb _ _ (ap (ofZ w) (≤ℤ-antisymm (h .high) (h .low))) ∙ sym e
-    by-test false e =
-        ne-eqb _ _ (λ q.
-        let p = eq-yes f g q in
-        true≢false (sym (true-within {lo = b} {hi = b} {z = a} (record { low = omega linear; high = omega linear })) ∙ e))
-        ∙ sym e
+eq-same {w} {a} {b} f g =
+    by-test (isWithin b b a)
+    (λ e. let h = within-true {lo = b} {hi = b} {z = a} e in eq-eqb _ _ (ap (ofZ w) (≤ℤ-antisymm (h .high) (h .low))) ∙ sym e)
+    (λ e.
+    ne-eqb _ _ (λ q. let p = eq-yes f g q in true≢false (sym (true-within {lo = b} {hi = b} {z = a} (record { low = omega linear; high = omega linear })) ∙ e))
+    ∙ sym e)
 
 -- ---- the range of a parameter that was tested: `search guarded` finds the tests in what a need is handed
 

@@ -1,6 +1,6 @@
 -- The laws of ≤ and < on ℤ, the tests of the code as facts, and the absolute value. Assumes nothing.
 use mathlib.Core.Path.{_≡_, refl}
-use mathlib.Core.Bool.{Bool, true, false}
+use mathlib.Core.Bool.{true, false}
 use mathlib.Core.Logic.{_⊎_, inl, inr, ⊎-elim}
 use mathlib.Mathlib.Data.Bool.Basic.{eq-true-of-not-eq-false, eq-false-of-not-eq-true}
 use Prim.Native.Nat.{ℕ, zero, suc, _+_, _*_, _≤_, min}
@@ -9,6 +9,7 @@ use lib.IntN.{ℤ, pos, negsuc, negℤ, natAbs, _+ℤ_, _-ℤ_, _*ℤ_}
 use lib.Signed.{leZ, ltZ, _≤ℤ_, _<ℤ_, ltZ-no, leZ-yes, ltZ-yes, clashℤ}
 use mir.Facts.{and-yes}
 use Rattle.arith.specs.Bounds.{Within, Size, isWithin}
+use Rattle.arith.proofs.Choose.{by-test}
 use Rattle.arith.proofs.Parts.{p⁺, p⁻, add-parts, sub-parts, neg-parts, linear}
 
 -- ---- a partial order; < is its strict part (`lib.Signed` has `≤ℤ-refl` and `<ℤ-≤ℤ-trans`)
@@ -41,11 +42,7 @@ lt-false e = ltZ-no (rw e tt)
 
 -- a total order, by a test that computes
 pub <ℤ-total : (a b : ℤ) → (a <ℤ b) ⊎ (b ≤ℤ a)
-<ℤ-total a b = go (ltZ a b) refl
-  where
-    go : (c : Bool) → ltZ a b ≡ c → (a <ℤ b) ⊎ (b ≤ℤ a)
-    go true e = inl (lt-true {a = a} {b = b} e)
-    go false e = inr (lt-false {a = a} {b = b} e)
+<ℤ-total a b = by-test (ltZ a b) (λ e. inl (lt-true {a = a} {b = b} e)) (λ e. inr (lt-false {a = a} {b = b} e))
 
 pub ≤ℤ-total : (a b : ℤ) → (a ≤ℤ b) ⊎ (b ≤ℤ a)
 ≤ℤ-total a b = ⊎-elim (λ h. inl (<ℤ→≤ℤ h)) (λ h. inr h) (<ℤ-total a b)

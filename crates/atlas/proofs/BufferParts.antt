@@ -14,7 +14,7 @@ use Rattle.records.specs.Records.{sheetRecord, placeRecord, endRecord}
 use Rattle.atlas_file.specs.Writing.{placeRecords, fileOf, fileLength}
 
 -- a record r, set in behind what is written; `before` is what the buffer held
-pub one-part : (written before r : List ℕ) (at end : ℕ) → length written ≡ at → at ≤ end → putMid at (end - at) (written ++ drop at before) r ≡ written ++ r ++ drop end before
+pub one-part : {A : Type 0} (written before r : List A) (at end : ℕ) → length written ≡ at → at ≤ end → putMid at (end - at) (written ++ drop at before) r ≡ written ++ r ++ drop end before
 one-part written before r at end l h =
     let u : at + (end - at) ≡ end = omega arith in
     rw (take-at written (drop at before) at l, drop-at written (drop at before) at l, drop-drop, u, append-assoc)

@@ -35,4 +35,4 @@ module _ (s : Sheet) (ps : List Place) (k last : ℕ) (p : Place) (v : Verdict) 
   good-turn g = sym (taken ∙ others-decide 0 (placeRules s k last p) _ (accepted []) (all-hold (placeRules s k last p) v e g))
 
   pub bad-turn : (r : Refusal) → v ≡ Refused r → refused 0 r ≡ inTurn s k last (drop k ps)
-  bad-turn r f = refused-first 0 0 (placeRules s k last p) _ [] (accepted []) r (sym (ap replyOf f) ∙ e) ∙ sym taken
+  bad-turn r f = refused-first 0 0 (placeRules s k last p) _ [] (accepted []) r (rw f at e) ∙ sym taken

@@ -1,5 +1,5 @@
 -- Two answers of reading, or of a step, never share a number and values. Assumes nothing.
-use mathlib.Core.Path.{_≡_, refl, sym, ap, _∙_}
+use mathlib.Core.Path.{_≡_, refl, sym, ap}
 use mathlib.Core.Bool.{cond}
 use lib.Dec.{eqb}
 use Rattle.refusal.proofs.Distinct.{refusalOf, refusal-of-number, distinct-numbers, no-number-zero}
@@ -21,34 +21,23 @@ distinct-file-replies (Atlas c s) (Refused why offset) e = absurd (no-number-zer
 distinct-file-replies (Refused why offset) (Atlas c s) e = absurd (no-number-zero why (number-of e))
 distinct-file-replies (Refused why offset) (Refused reason place) e = λ i. Refused (distinct-numbers why reason (number-of e) i) (e i .offset)
 
--- ---- of a step: what was found is read off its reply
+-- ---- of a step: what was found is read off its reply, and place and state are in it as they are
 
 foundOf : StepReply → Found
 foundOf r = cond (eqb (r .which) 1) (found.Sheet (r .sheet)) (cond (eqb (r .which) 2) found.Place (cond (eqb (r .which) 3) (found.End (r .count)) (found.Refused (refusalOf (r .number)) (r .offset))))
 
-found-again : (f : Found) (p : Place) (s : State) → foundOf (foundReply f p s) ≡ f
+again : (f : Found) (p : Place) (s : State) → (foundOf (foundReply f p s) ≡ f) × (foundReply f p s .place ≡ p) × (foundReply f p s .next ≡ s)
 unfolding foundOf
-found-again (found.Sheet h) p s = refl
-found-again found.Place p s = refl
-found-again (found.End count) p s = refl
-found-again (found.Refused why offset) p s = ap (λ w. found.Refused w offset) (refusal-of-number why)
-
--- place and state are in every reply as they are
-place-of : (f : Found) (p : Place) (s : State) → foundReply f p s .place ≡ p
-place-of (found.Sheet h) p s = refl
-place-of found.Place p s = refl
-place-of (found.End count) p s = refl
-place-of (found.Refused why offset) p s = refl
-
-next-of : (f : Found) (p : Place) (s : State) → foundReply f p s .next ≡ s
-next-of (found.Sheet h) p s = refl
-next-of found.Place p s = refl
-next-of (found.End count) p s = refl
-next-of (found.Refused why offset) p s = refl
+again (found.Sheet h) p s = (refl, refl, refl)
+again found.Place p s = (refl, refl, refl)
+again (found.End count) p s = (refl, refl, refl)
+again (found.Refused why offset) p s = (ap (λ w. found.Refused w offset) (refusal-of-number why), refl, refl)
 
 pub distinct-step-replies : DistinctStepReplies
 distinct-step-replies a b e =
-    let f = sym (found-again (a .«found») (a .«place») (a .«next»)) ∙ ap foundOf e ∙ found-again (b .«found») (b .«place») (b .«next») in
-    let p = sym (place-of (a .«found») (a .«place») (a .«next»)) ∙ ap (λ (r : StepReply). r .place) e ∙ place-of (b .«found») (b .«place») (b .«next») in
-    let s = sym (next-of (a .«found») (a .«place») (a .«next»)) ∙ ap (λ (r : StepReply). r .next) e ∙ next-of (b .«found») (b .«place») (b .«next») in
+    let x = again (a .«found») (a .«place») (a .«next») in
+    let y = again (b .«found») (b .«place») (b .«next») in
+    let f : a .«found» ≡ b .«found» = cc in
+    let p : a .«place» ≡ b .«place» = cc in
+    let s : a .«next» ≡ b .«next» = cc in
     λ i. record { «found» = f i; «place» = p i; «next» = s i }

@@ -14,12 +14,12 @@ use Rattle.atlas_file.specs.declared.Found.{Found}
 use Rattle.atlas_file.specs.declared.Found.the-variants as found
 use Rattle.atlas_file.specs.declared.StepAnswer.{StepAnswer}
 use Rattle.records.specs.Records.{IsRecord, sheetOf, placeOf, endOf}
-use Rattle.atlas_file.specs.Steps.{mostPlaces, pastSheet, pastPlace, refusedStep, stepOf, StepReply, foundReply}
+use Rattle.atlas_file.specs.Steps.{mostPlaces, pastSheet, pastPlace, refusedStep, stepOf}
 use Rattle.refusal.specs.Rules.{allHold}
 use Rattle.sheet.specs.declared.Sheet.{Sheet}
 use Rattle.sheet.specs.Sheets.{passesChecks}
-use Rattle.place.specs.Places.{blankPlace, placeRules}
-use Rattle.atlas_file.specs.Reading.{goesOn, startOf, readFrom}
+use Rattle.place.specs.Places.{placeRules}
+use Rattle.atlas_file.specs.Reading.{goesOn, readFrom}
 use Rattle.atlas_file.specs.Laws.{OneRecord, SheetMoves, PlaceMoves, EndIsLast, Stays, SameAgain, BoundNeverReached}
 use Rattle.atlas_file.proofs.Views.{Stepped, refused, sheet, place, end, view}
 use Rattle.atlas_file.proofs.Turns.{afterStep, read-turn}
@@ -43,40 +43,36 @@ one-record which b s next r rest i e p = record {
   past = p;
 }
 
--- what was found as a reply has it, whatever stands beside it
-abbrev replied : Found → StepReply
-replied f = foundReply f blankPlace (startOf 0)
-
--- two findings that are not the same
-differ : {P : Type 0} (f g : Found) → f ≡ g → (replied f .which ≡ replied g .which → ⊥) → P
-differ f g e n = absurd (n (ap (λ h. replied h .which) e))
+-- what was found is never two things: `cc` has 0 ≡ 1 of it
+never : {P : Type 0} → _≡_ {A = ℕ} 0 1 → P
+never e = absurd (omega (arith, e))
 
 module _ {b : List ℕ} {s : State} where
   sheet-moved : {a : StepAnswer} → Stepped b s a → (h : Sheet) → a .«found» ≡ found.Sheet h →
       (r : List ℕ) × OneRecord records.Sheet b s (a .«next») r × (h ≡ sheetOf r) × (a .«next» ≡ pastSheet s r) × (s .«sheet_read» ≡ false) × (passesChecks h ≡ true)
   unfolding refusedStep
-  sheet-moved (refused why offset) h e = differ _ _ e (λ z. omega arith)
+  sheet-moved (refused why offset) h e = never (cc)
   sheet-moved (sheet r rest i at unread ok) h e =
-      let same = ap (λ f. replied f .sheet) e in
+      let same : sheetOf r ≡ h = cc in
       (r, one-record records.Sheet b s _ r rest i at refl, sym same, refl, unread, subst (λ (h : Sheet). passesChecks h ≡ true) same ok)
-  sheet-moved (place r rest i at read few room ok) h e = differ _ _ e (λ z. omega arith)
-  sheet-moved (end r i at read same) h e = differ _ _ e (λ z. omega arith)
+  sheet-moved (place r rest i at read few room ok) h e = never (cc)
+  sheet-moved (end r i at read same) h e = never (cc)
 
   place-moved : {a : StepAnswer} → Stepped b s a → a .«found» ≡ found.Place →
       (r : List ℕ) × OneRecord records.Place b s (a .«next») r × (a .«place» ≡ placeOf r) × (a .«next» ≡ pastPlace s r) × (s .«sheet_read» ≡ true) × (s .«count» < mostPlaces) × (s .«count» < s .«room») × (allHold (placeRules (s .«sheet») (s .«count») (s .«last_id») (a .«place»)) ≡ true)
   unfolding refusedStep
-  place-moved (refused why offset) e = differ _ _ e (λ z. omega arith)
-  place-moved (sheet r rest i at unread ok) e = differ _ _ e (λ z. omega arith)
+  place-moved (refused why offset) e = never (cc)
+  place-moved (sheet r rest i at unread ok) e = never (cc)
   place-moved (place r rest i at read few room ok) e = (r, one-record records.Place b s _ r rest i at refl, refl, refl, read, few, room, ok)
-  place-moved (end r i at read same) e = differ _ _ e (λ z. omega arith)
+  place-moved (end r i at read same) e = never (cc)
 
   last-end : {a : StepAnswer} → Stepped b s a → (count : ℕ) → a .«found» ≡ found.End count →
       (r : List ℕ) × IsRecord records.End r × (drop (s .«at») b ≡ r) × (s .«sheet_read» ≡ true) × (count ≡ endOf r) × (count ≡ s .«count»)
   unfolding refusedStep
-  last-end (refused why offset) count e = differ _ _ e (λ z. omega arith)
-  last-end (sheet r rest i at unread ok) count e = differ _ _ e (λ z. omega arith)
-  last-end (place r rest i at read few room ok) count e = differ _ _ e (λ z. omega arith)
-  last-end (end r i at read same) count e = let c-is = sym (ap (λ f. replied f .count) e) in (r, i, at, read, c-is, c-is ∙ same)
+  last-end (refused why offset) count e = never (cc)
+  last-end (sheet r rest i at unread ok) count e = never (cc)
+  last-end (place r rest i at read few room ok) count e = never (cc)
+  last-end (end r i at read same) count e = let c-is : count ≡ endOf r = cc in (r, i, at, read, c-is, c-is ∙ same)
 
   stayed : {r : StepAnswer} → Stepped b s r → goesOn (r .«found») ≡ false → r .«next» ≡ s
   unfolding refusedStep

@@ -1,9 +1,9 @@
 -- What a step can be: refused, with the state as it was; a sheet or a place, and the state past its record; or the end. Assumes nothing.
 use mathlib.Core.Path.{_≡_, refl, sym, ap, _∙_}
-use mathlib.Core.Bool.{Bool, true, false, _&&_}
+use mathlib.Core.Bool.{true, false}
 use mathlib.Core.List.{List, [], _∷_, _++_}
 use mathlib.Mathlib.Data.Bool.Basic.{and-elim-left, and-elim-right}
-use Prim.Native.Nat.{ℕ, suc, _+_, _-_, _≤_, _<_}
+use Prim.Native.Nat.{ℕ, suc, _+_, _≤_, _<_}
 use native.Mathlib.Nat.{add-zero}
 use native.Mathlib.Omega.{arith}
 use lib.ListN.{length, getD, take, drop, take-append-drop, List·getD-append}
@@ -12,8 +12,8 @@ use lib.Dec.{ltb}
 use borrow.Author.Tests.{ltb-true, ltb-false, eqb-true, not-true}
 use Rattle.refusal.specs.declared.Refusal.{Refusal}
 use Rattle.refusal.specs.declared.Refusal.the-variants.{Cut}
-use Rattle.refusal.specs.Rules.{Rule, _else-refuse_, allHold}
-use Rattle.refusal.proofs.InOrder.{by-outcome, both-hold}
+use Rattle.refusal.specs.Rules.{_else-refuse_, allHold}
+use Rattle.refusal.proofs.InOrder.{each-holds, by-outcome, both-hold}
 use Rattle.sheet.specs.Sheets.{sheetRules}
 use Rattle.records.specs.declared.Record.{Record}
 use Rattle.records.specs.declared.Record.the-variants as records
@@ -36,25 +36,21 @@ pub data Stepped (b : List ℕ) (s : State) : StepAnswer → Type 0 where
   end : (r : List ℕ) → IsRecord records.End r → drop (s .«at») b ≡ r → s .«sheet_read» ≡ true → endOf r ≡ s .«count» →
       Stepped b s (record { «found» = found.End (endOf r); «place» = blankPlace; «next» = s })
 
--- one rule that holds
-first-holds : (t : Bool) (rules : List Rule) → (t && allHold rules) ≡ true → t ≡ true
-first-holds t rules e = and-elim-left t (allHold rules) e
-
 -- what it says that a record is due: of a sheet, that none is read; of a place, that the sheet is read, and there is room; of the end, that the sheet is read
 pub sheet-due : (s : State) → allHold (dueRules records.Sheet s) ≡ true → s .«sheet_read» ≡ false
 unfolding dueRules
-sheet-due s due = not-true _ (first-holds _ [] due)
+sheet-due s due = not-true _ (each-holds (dueRules records.Sheet s) due .0)
 
 pub place-due : (s : State) → allHold (dueRules records.Place s) ≡ true → (s .«sheet_read» ≡ true) × (s .«count» < mostPlaces) × (s .«count» < s .«room»)
 unfolding dueRules
 place-due s due =
-    let rooms = first-holds _ [] (and-elim-right (s .«sheet_read») _ due) in
+    let h = each-holds (dueRules records.Place s) due in
     let few = ltb (s .«count») mostPlaces in
-    (and-elim-left (s .«sheet_read») _ due, ltb-true _ _ (and-elim-left few _ rooms), ltb-true _ _ (and-elim-right few _ rooms))
+    (h .0, ltb-true _ _ (and-elim-left few _ (h .1 .0)), ltb-true _ _ (and-elim-right few _ (h .1 .0)))
 
 pub end-due : (s : State) → allHold (dueRules records.End s) ≡ true → s .«sheet_read» ≡ true
 unfolding dueRules
-end-due s due = first-holds _ [] due
+end-due s due = each-holds (dueRules records.End s) due .0
 
 -- a byte of a part of the file
 pub byte-at : (b r rest : List ℕ) (at i : ℕ) → drop at b ≡ r ++ rest → i < length r → getD b (at + i) 0 ≡ getD r i 0
@@ -92,8 +88,8 @@ module _ (b : List ℕ) (s : State) (body : ℕ) (whole : ltb body (length (drop
       by-outcome StepAnswer (Stepped b s) (endRules r s) _ _
       (λ same. by-outcome StepAnswer (Stepped b s) (lastRules (ltb (suc body) (length (drop (s .«at») b)))) _ _
       (λ last.
-      let short : length (drop (s .«at») b) ≤ suc body = ltb-false _ _ (not-true _ (first-holds _ [] last)) in
-      end r (a-record records.End e) (sym (take-all (suc body) (drop (s .«at») b) short)) (end-due s due) (eqb-true _ _ (first-holds _ [] same)))
+      let short : length (drop (s .«at») b) ≤ suc body = ltb-false _ _ (not-true _ (each-holds (lastRules (ltb (suc body) (length (drop (s .«at») b)))) last .0)) in
+      end r (a-record records.End e) (sym (take-all (suc body) (drop (s .«at») b) short)) (end-due s due) (eqb-true _ _ (each-holds (endRules r s) same .0)))
       (λ why. refused why (s .«at» + length r)))
       (λ why. refused why (s .«at»))
 
@@ -102,7 +98,7 @@ record-view : (b : List ℕ) (s : State) (which : Record) (body : ℕ) → layou
 unfolding recordStep
 record-view b s which body e =
     by-outcome StepAnswer (Stepped b s) (dueRules which s ++ ((ltb body (length (drop (s .«at») b)) else-refuse _) ∷ [])) _ _
-    (λ h. let hs = both-hold (dueRules which s) _ h in content-view b s body (first-holds _ [] (hs .1)) which e (hs .0))
+    (λ h. let hs = both-hold (dueRules which s) _ h in content-view b s body (each-holds ((_ else-refuse Cut) ∷ []) (hs .1) .0) which e (hs .0))
     (λ why. refused why _)
 
 layout-view : (b : List ℕ) (s : State) (l : Layout) → layoutOf (getD b (s .«at») 0) ≡ l → Stepped b s (layoutStep l (drop (s .«at») b) s)

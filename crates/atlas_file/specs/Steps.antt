@@ -79,6 +79,7 @@ endFound s r = record { «found» = found.End (endOf r); «place» = blankPlace;
 unfoldable pub endStep : (r : List ℕ) (more : Bool) → State → StepAnswer
 endStep r more s = outcome (endRules r s) (outcome (lastRules more) (endFound s r) (refusedPast s r)) (refusedHere s)
 
+-- what a record that is due and whole comes to; `more`: bytes follow it
 unfoldable pub contentStep : Record → (r : List ℕ) (more : Bool) → State → StepAnswer
 contentStep records.Sheet r more s = sheetStep r s
 contentStep records.Place r more s = placeStep r s

@@ -1,15 +1,14 @@
 -- Which positions are answered, and which of the position's own refusals the others get on a sheet that passes its checks. Assumes nothing.
 use mathlib.Core.Path.{_≡_, sym, _∙_}
-use mathlib.Core.Bool.{true, false, _&&_}
+use mathlib.Core.Bool.{true, false}
 use mathlib.Core.List.{[], _∷_, _++_}
-use mathlib.Mathlib.Data.Bool.Basic.{and-elim-left, and-elim-right}
 use lib.IntN.{ℤ}
 use Rattle.arith.proofs.Order.{true-within}
 use Rattle.refusal.specs.declared.Refusal.the-variants.{OffSheet, OutOfRange}
 use Rattle.refusal.specs.Numbers.{Reply, accepted, refused}
 use Rattle.refusal.specs.Rules.{inOrder}
 use Rattle.refusal.proofs.Distinct.{same-values}
-use Rattle.refusal.proofs.InOrder.{others-decide, accepted-all-hold, not-refused-all-hold, all-hold-good, both-hold}
+use Rattle.refusal.proofs.InOrder.{each-holds, others-decide, accepted-all-hold, not-refused-all-hold, all-hold-good, both-hold}
 use Rattle.sheet.specs.declared.Sheet.{Sheet}
 use Rattle.sheet.specs.Sheets.{sheetRules, passesChecks, onSheet}
 use Rattle.conic.specs.Conic.{xOf, yOf, inRange, positionRules, forwardReply}
@@ -46,6 +45,6 @@ unfolding positionRules
 answered-on-sheet s latitude longitude x y e =
     let all = accepted-all-hold 2 (sheetRules s ++ positionRules s latitude longitude) _ _ (sym e) in
     let both = both-hold (sheetRules s) (positionRules s latitude longitude) all in
-    let o = and-elim-left (onSheet s latitude longitude) true (and-elim-right (inRange latitude longitude) (onSheet s latitude longitude && true) (both .1)) in
+    let o = each-holds (positionRules s latitude longitude) (both .1) .1 .0 in
     let k = same-values _ _ (sym e ∙ answered s latitude longitude (both .0) o) in
     (both .0, o, cc, cc)

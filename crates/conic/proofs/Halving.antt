@@ -1,12 +1,12 @@
 -- The halving is the document's loop, and keeps a map point between lo and hi. Assumes nothing.
-use mathlib.Core.Path.{_≡_, refl, sym, _∙_}
-use mathlib.Core.Bool.{Bool, true, false, cond}
+use mathlib.Core.Path.{_≡_, refl, sym, ap, _∙_}
+use mathlib.Core.Bool.{true, false, cond}
 use mathlib.Core.Logic.{⊎-elim}
 use Prim.Native.Nat.{ℕ, zero, suc}
 use lib.Dec.{lit<}
 use lib.IntN.{ℤ, pos, natAbs, _+ℤ_, _-ℤ_, _*ℤ_}
 use lib.Signed.{ltZ, quotZ, _≤ℤ_, _<ℤ_, ≤ℤ-refl}
-use Rattle.arith.proofs.Choose.{choose}
+use Rattle.arith.proofs.Choose.{choose, as-choice}
 use Rattle.arith.proofs.Parts.{linear, add-parts, sub-parts, mul-parts}
 use Rattle.arith.proofs.Order.{true-lt, false-lt, true-le, le-false, <ℤ→≤ℤ, <ℤ-total, abs-parts}
 use Rattle.arith.proofs.Quot.{quot-nonneg}
@@ -24,17 +24,11 @@ middle-between lo hi h =
 halves : (k : ℕ) (lo hi : ℤ) → pos 1 <ℤ (hi -ℤ lo) → (hi -ℤ lo) ≤ℤ pos (suc k) → ((hi -ℤ middle lo hi) ≤ℤ pos k) × ((middle lo hi -ℤ lo) ≤ℤ pos k)
 halves k lo hi h a = let mid = middle lo hi in omega (linear, middle-between lo hi h, sub-parts hi lo, sub-parts hi mid, sub-parts mid lo)
 
--- a turn's two tests, as a choice
-as-choice : (apart right : Bool) (a b c : ℤ) → elim apart [ true ↦ elim right [ true ↦ a | false ↦ b ] | false ↦ c ] ≡ cond apart (cond right a b) c
-as-choice true true a b c = refl
-as-choice true false a b c = refl
-as-choice false right a b c = refl
-
 module _ (n x v : ℤ) where
   turn : (k : ℕ) (lo hi : ℤ) → let mid = middle lo hi in
       halved (suc k) n x v lo hi ≡ cond (ltZ (pos 1) (hi -ℤ lo)) (cond (notLeft n x v mid) (halved k n x v mid hi) (halved k n x v lo mid)) lo
   unfolding halved
-  turn k lo hi = as-choice (ltZ (pos 1) (hi -ℤ lo)) (notLeft n x v (middle lo hi)) _ _ lo
+  turn k lo hi = let apart = ltZ (pos 1) (hi -ℤ lo) in as-choice apart _ lo ∙ ap (λ z. cond apart z lo) (as-choice (notLeft n x v (middle lo hi)) _ _)
 
   ends : (k : ℕ) (lo hi : ℤ) → (hi -ℤ lo) ≤ℤ pos 1 → halved k n x v lo hi ≡ lo
   unfolding halved

@@ -1,10 +1,9 @@
 -- The position of a map point is always on its own sheet, so that 15 never comes back; which points are answered, and which of the point's own refusals the others get
 -- on a sheet that passes its checks. Assumes nothing.
 use mathlib.Core.Path.{_≡_, _∙_}
-use mathlib.Core.Bool.{true, false, _&&_}
+use mathlib.Core.Bool.{true, false}
 use mathlib.Core.Logic.{⊎-elim}
 use mathlib.Core.List.{List, [], _∷_, _++_}
-use mathlib.Mathlib.Data.Bool.Basic.{and-elim-left, and-elim-right}
 use native.Mathlib.Omega.{arith}
 use lib.IntN.{ℤ, pos, negℤ, _+ℤ_, _-ℤ_}
 use lib.Signed.{_≤ℤ_, _<ℤ_}
@@ -14,8 +13,8 @@ use Rattle.arith.proofs.Parts.{linear, sub-parts, neg-parts}
 use Rattle.arith.proofs.Tests.{Says, said, facts}
 use Rattle.refusal.specs.declared.Refusal.the-variants.{OffSheet, OutOfRange}
 use Rattle.refusal.specs.Numbers.{Reply, accepted, refused}
-use Rattle.refusal.specs.Rules.{inOrder, allHold}
-use Rattle.refusal.proofs.InOrder.{others-decide, agree-behind, both-hold, not-refused-all-hold}
+use Rattle.refusal.specs.Rules.{inOrder}
+use Rattle.refusal.proofs.InOrder.{each-holds, others-decide, agree-behind, both-hold, not-refused-all-hold}
 use Rattle.sheet.specs.declared.Sheet.{Sheet}
 use Rattle.sheet.specs.Sheets.{fs, fn, w, n, g, sheetRules, passesChecks, offsetOf, onSheet}
 use Rattle.sheet.proofs.Limits.{passes-limits}
@@ -110,24 +109,18 @@ module _ (s : Sheet) (x y : ℤ) (p : passesChecks s ≡ true) where
 pub point-answered : PointAnswered
 point-answered s x y p i o = point-held s x y p i o ∙ held-is s x y p o
 
--- where the point's own rules hold
-rules-hold : (s : Sheet) (x y : ℤ) → allHold (pointRules s x y) ≡ true → (pointInRange x y ≡ true) × (pointOnSheet s x (vOf s y) ≡ true)
-unfolding pointRules
-rules-hold s x y e =
-    let rest = pointOnSheet s x (vOf s y) && true in
-    (and-elim-left (pointInRange x y) rest e, and-elim-left (pointOnSheet s x (vOf s y)) true (and-elim-right (pointInRange x y) rest e))
-
 pub not-refused-on-sheet : NotRefusedOnSheet
+unfolding pointRules
 not-refused-on-sheet s x y e =
     let both = both-hold (sheetRules s) (pointRules s x y) (not-refused-all-hold 2 (sheetRules s ++ pointRules s x y) _ e) in
-    let h = rules-hold s x y (both .1) in
-    (both .0, h .0, h .1)
+    let h = each-holds (pointRules s x y) (both .1) in
+    (both .0, h .0, h .1 .0)
 
 pub no-test-needed : NoTestNeeded
 unfolding pointRules
 no-test-needed s x y =
     agree-behind 2 (sheetRules s) (pointRules s x y) (pointRules s x y) _ _
-    (λ p. agree-behind 2 (pointRules s x y) [] [] _ _ (λ e. held-is s x y p (rules-hold s x y e .1)))
+    (λ p. agree-behind 2 (pointRules s x y) [] [] _ _ (λ e. held-is s x y p (each-holds (pointRules s x y) e .1 .0)))
 
 -- 15 is not the number of any of the refusals that are left
 abbrev NotFifteen : Reply → Type 0

@@ -50,7 +50,7 @@ RadiusIsRoot = (s : Sheet) (x y : ℤ) → passesChecks s ≡ true → pointInRa
     let v = vOf s y in
     pos 0 <ℤ v → Root (x *ℤ x +ℤ v *ℤ v) (radiusAt x v)
 
--- the halving is the document's loop: it ends where hi - lo ≤ 1, and goes on else with mid in place of lo or of hi (Halving)
+-- the halving is document 01's loop: it ends where hi - lo ≤ 1, and goes on else with mid in place of lo or of hi (Halving)
 abbrev pub LastLoEnds : Type 0
 LastLoEnds = (n x v lo hi : ℤ) → (hi -ℤ lo) ≤ℤ pos 1 → lastLo n x v lo hi ≡ lo
 

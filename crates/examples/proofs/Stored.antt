@@ -1,5 +1,5 @@
 -- The file of case 11 in a table and in a buffer, and taps: by computation. Assumes nothing.
-use mathlib.Core.Path.{_≡_, refl, ap, _∙_}
+use mathlib.Core.Path.{refl, ap}
 use mathlib.Core.List.{[], _∷_, _++_}
 use native.Mathlib.Omega.{arith}
 use lib.ListN.{length, drop}
@@ -11,19 +11,14 @@ use Rattle.place.specs.Names.{isName}
 use Rattle.place.specs.Places.{placeRulesAt, placeRules}
 use Rattle.records.specs.Records.{sheetRecord, placeRecord, endRecord}
 use Rattle.nearest.specs.Taps.{squared, squaredDistance, isBefore, better, bestOf, withinReachFrom, withinReach, nearestReply}
-use Rattle.atlas_file.specs.Reading.{Reading, readOf}
+use Rattle.atlas_file.specs.Reading.{Reading}
 use Rattle.atlas_file.specs.Writing.{placeRecords, fileOf, placesRules, listRules, writeRules}
-use Rattle.integrity.proofs.Rooms.{room-enough}
 use Rattle.atlas.specs.Buffers.{bufferAfter}
-use Rattle.examples.specs.Files.{millFile}
 use Rattle.examples.specs.Tables.{other, MillStored, MillWritten, MillNearest, TapReplies, FarIsNotNear}
-use Rattle.examples.proofs.Read.{mill-read}
+use Rattle.examples.proofs.Read.{mill-read-in}
 
 pub mill-stored : MillStored
-mill-stored =
-    let one : readOf millFile 1 .reply .count ≡ 1 = ap (λ (R : Reading). R .reply .count) mill-read in
-    let read = room-enough millFile 1 2 (ap (λ (R : Reading). R .reply .number) mill-read) (omega arith) ∙ mill-read in
-    ap (λ (R : Reading). R .places ++ drop (length (R .places)) (other ∷ other ∷ [])) read
+mill-stored = ap (λ (R : Reading). R .places ++ drop (length (R .places)) (other ∷ other ∷ [])) (mill-read-in 2 (omega arith))
 
 pub mill-written : MillWritten
 unfolding angleOf squareOf seriesOf sineOf cosineOf

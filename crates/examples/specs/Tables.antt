@@ -36,7 +36,7 @@ placeAt id x y = record { «id» = id; «latitude» = pos 0; «longitude» = pos
 abbrev pub foundAt : (position : ℕ) → Reply
 foundAt k = accepted (pos k ∷ [])
 
--- 50 units from 0, 0 each: the lowest id, then the earliest; at the reach, and one unit short of it; the limits of the reach and of the tap, and one past each
+-- 50 units from 0, 0 each: the lowest id, then the earliest; one unit to the right, where another is nearest; one unit short of the reach; an empty table; the limits of the reach and of the tap, and one past each
 abbrev pub threePlaces : List Place
 threePlaces = placeAt 9 (pos 30) (pos 40) ∷ placeAt 5 (negsuc 29) (pos 40) ∷ placeAt 5 (pos 50) (pos 0) ∷ []
 

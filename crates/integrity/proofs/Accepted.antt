@@ -1,15 +1,16 @@
 -- What an accepted file is: a sheet's record, the records of its places, the end; and what follows from it. Assumes nothing.
 use mathlib.Core.Path.{_≡_, refl, sym, ap, subst, _∙_}
-use mathlib.Core.Bool.{Bool, true, false, true≢false}
+use mathlib.Core.Bool.{true, true≢false}
 use mathlib.Core.List.{List, [], _∷_, _++_, append-assoc, append-nil}
-use Prim.Native.Nat.{ℕ, zero, suc, _+_, _-_, _*_, _≤_, _<_}
+use Prim.Native.Nat.{ℕ, zero, suc, _+_, _*_, _≤_}
 use mathlib.Mathlib.Data.Bool.Basic.{and-elim-left, and-elim-right}
 use lib.Dec.{ltb, leb}
 use borrow.Author.Tests.{ltb-true, ltb-false, leb-true, le-leb}
 use native.Mathlib.Nat.{add-zero, zero-add}
 use native.Mathlib.Omega.{arith}
-use lib.ListN.{length, getD, drop, length-append, List·getD-eq-default}
+use lib.ListN.{length, drop, length-append, List·getD-eq-default}
 use lib.IntN.{pos}
+use Rattle.arith.proofs.Choose.{by-test}
 use Rattle.refusal.specs.declared.Refusal.the-variants.{Cut}
 use Rattle.refusal.specs.Numbers.{Reply, accepted}
 use Rattle.refusal.specs.Rules.{allHold}
@@ -96,12 +97,11 @@ run-count (goes r rest i at few room ok run) m f = let k = run-count run (omega 
 
 -- ---- the bytes and the rules
 
-byte-of-part : (b r rest : List ℕ) (at i : ℕ) → Bytes b → drop at b ≡ r ++ rest → (inside : Bool) → ltb i (length r) ≡ inside → getD r i 0 < 256
-byte-of-part b r rest at i h e true l = subst (λ (k : ℕ). k < 256) (byte-at b r rest at i e (ltb-true _ _ l)) (h (at + i))
-byte-of-part b r rest at i h e false l = subst (λ (k : ℕ). k < 256) (sym (List·getD-eq-default r 0 (ltb-false _ _ l))) (omega arith)
-
-bytes-of-part : (b r rest : List ℕ) (at : ℕ) → Bytes b → drop at b ≡ r ++ rest → Bytes r
-bytes-of-part b r rest at h e i = byte-of-part b r rest at i h e _ refl
+pub bytes-of-part : (b r rest : List ℕ) (at : ℕ) → Bytes b → drop at b ≡ r ++ rest → Bytes r
+bytes-of-part b r rest at h e i =
+    by-test (ltb i (length r))
+    (λ l. rw (← (byte-at b r rest at i e (ltb-true _ _ l))) (h (at + i)))
+    (λ l. rw (List·getD-eq-default r 0 (ltb-false _ _ l)) (omega arith))
 
 run-bytes : {b : List ℕ} {s : State} {ps : List Place} → Bytes b → Run b s ps → drop (s .«at») b ≡ placeRecords ps ++ endRecord (s .«count» + length ps)
 unfolding placeRecords

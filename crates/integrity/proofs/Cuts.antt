@@ -9,7 +9,7 @@ use lib.ListN.{length, getD, take, drop, replicate, length-append, length-drop, 
 use lib.Seq.{length-take-le, drop-append-le, take-append-le, take-all}
 use lib.Dec.{ltb, leb}
 use borrow.Author.Tests.{ltb-true, ltb-false, leb-true, leb-false, lt-ltb}
-use Rattle.arith.proofs.Choose.{choose}
+use Rattle.arith.proofs.Choose.{choose, by-test}
 use Rattle.refusal.specs.declared.Refusal.{Refusal}
 use Rattle.refusal.specs.declared.Refusal.the-variants.{Cut, TrailingBytes}
 use Rattle.refusal.specs.Rules.{allHold}
@@ -176,12 +176,11 @@ long-agree (cut a offset l k) h = absurd (let w : ⊥ = omega arith in w)
 long-agree (past offset a k) h = absurd (let w : ⊥ = omega arith in w)
 
 -- so it is for any number of bytes that is larger than the longest file
-first-bytes : (b : List ℕ) (room k : ℕ) (t : Bool) → leb (length b) k ≡ t → longestFile < k → readOf (take k b) room ≡ readOf b room
-first-bytes b room k true e h = ap (λ (l : List ℕ). readOf l room) (take-all k b (leb-true _ _ e))
-first-bytes b room k false e h =
+pub first-bytes-decide : FirstBytesDecide
+first-bytes-decide b room k h =
+    by-test (leb (length b) k)
+    (λ e. ap (λ (l : List ℕ). readOf l room) (take-all k b (leb-true _ _ e)))
+    (λ e.
     let more : k < length b = leb-false _ _ e in
     long-agree (compared (take k b) (drop k b) (omega (arith, length-drop k b)) room) (omega (arith, length-take-le k b (omega arith)))
-    ∙ ap (λ (l : List ℕ). readOf l room) (take-append-drop k b)
-
-pub first-bytes-decide : FirstBytesDecide
-first-bytes-decide b room k = first-bytes b room k _ refl
+    ∙ ap (λ (l : List ℕ). readOf l room) (take-append-drop k b))

@@ -1,20 +1,19 @@
 -- Room for all the places gives the same reading, and with less the first place that has none is refused. Assumes nothing.
 use mathlib.Core.Path.{_≡_, refl, sym, ap, subst, _∙_}
-use mathlib.Core.Bool.{Bool, true, false}
+use mathlib.Core.Bool.{true}
 use mathlib.Core.List.{List, [], _∷_, _++_}
 use Prim.Native.Nat.{ℕ, zero, suc, _+_, _-_, _*_, _≤_, _<_}
 use native.Mathlib.Omega.{arith}
-use lib.ListN.{length, drop}
+use lib.ListN.{length}
 use lib.Dec.{ltb}
 use borrow.Author.Tests.{ltb-true, ltb-false}
+use Rattle.arith.proofs.Choose.{by-test}
 use Rattle.refusal.specs.declared.Refusal.the-variants.{NoRoom}
-use Rattle.refusal.specs.Rules.{allHold}
 use Rattle.records.specs.declared.Record.the-variants as records
 use Rattle.place.specs.declared.Place.{Place}
 use Rattle.atlas_file.specs.declared.State.{State}
-use Rattle.records.specs.Records.{IsRecord, sheetOf, sheetRecord, placeOf}
-use Rattle.place.specs.Places.{placeRules}
-use Rattle.atlas_file.specs.Steps.{pastPlace, mostPlaces, refusedStep}
+use Rattle.records.specs.Records.{sheetOf, sheetRecord, placeOf}
+use Rattle.atlas_file.specs.Steps.{refusedStep}
 use Rattle.atlas_file.specs.Reading.{Reading, refusedReading, startOf, readFrom}
 use Rattle.integrity.specs.Integrity.{RoomEnough, RoomShort}
 use Rattle.records.proofs.SheetRecords.{sheet-as-long}
@@ -45,30 +44,25 @@ room-enough b room other e h =
 Short : (n : ℕ) (b : List ℕ) (s : State) (other : ℕ) (places : List Place) → Type 0
 Short n b s other places = readFrom n b (withRoom s other) places ≡ refusedReading NoRoom (s .«at» + 37 * (other - s .«count»))
 
-no-room-turn : (n : ℕ) (b : List ℕ) (s : State) (other : ℕ) (places : List Place) (r rest : List ℕ) → IsRecord records.Place r → drop (s .«at») b ≡ r ++ rest →
-    s .«count» < mostPlaces → allHold (placeRules (s .«sheet») (s .«count») (s .«last_id») (placeOf r)) ≡ true → s .«sheet_read» ≡ true → s .«count» ≤ other →
-    (s .«count» < other → Short n b (pastPlace s r) other (places ++ (placeOf r ∷ []))) → (more : Bool) → ltb (s .«count») other ≡ more → Short (suc n) b s other places
-unfolding Short refusedStep
-no-room-turn n b s other places r rest i at few ok read m on true e =
-    let fits : s .«count» < other = ltb-true _ _ e in
-    let offset : s .«at» + length r + 37 * (other - (s .«count» + 1)) ≡ s .«at» + 37 * (other - s .«count») = omega (arith, place-length r i) in
-    read-turn n b (withRoom s other) places
-    ∙ ap (afterStep n b (withRoom s other) places) (place-reads b (withRoom s other) r rest i at read few fits ok)
-    ∙ on fits
-    ∙ ap (refusedReading NoRoom) offset
-no-room-turn n b s other places r rest i at few ok read m on false e =
-    let full : other ≤ s .«count» = ltb-false _ _ e in
-    let offset : s .«at» ≡ s .«at» + 37 * (other - s .«count») = omega arith in
-    read-turn n b (withRoom s other) places
-    ∙ ap (afterStep n b (withRoom s other) places) (full-refuses b (withRoom s other) r rest i at read few full)
-    ∙ ap (refusedReading NoRoom) offset
-
 no-room : {b : List ℕ} {s : State} {ps : List Place} (n other : ℕ) (places : List Place) → Run b s ps → s .«sheet_read» ≡ true →
     s .«count» ≤ other → other < s .«count» + length ps → length ps < n → Short n b s other places
+unfolding Short refusedStep
 no-room zero other places run read m f h = absurd (let w : ⊥ = omega arith in w)
 no-room (suc n) other places (ends r i at same) read m f h = absurd (let w : ⊥ = omega arith in w)
 no-room {b} {s} (suc n) other places (goes r rest i at few _ ok run) read m f h =
-    no-room-turn n b s other places r rest i at few ok read m (λ fits. no-room n other (places ++ (placeOf r ∷ [])) run read (omega arith) (omega arith) (omega arith)) _ refl
+    let t = withRoom s other in
+    read-turn n b t places
+    ∙ by-test (ltb (s .«count») other)
+    (λ e.
+    let fits : s .«count» < other = ltb-true _ _ e in
+    let offset : s .«at» + length r + 37 * (other - (s .«count» + 1)) ≡ s .«at» + 37 * (other - s .«count») = omega (arith, place-length r i) in
+    ap (afterStep n b t places) (place-reads b t r rest i at read few fits ok)
+    ∙ no-room n other (places ++ (placeOf r ∷ [])) run read (omega arith) (omega arith) (omega arith)
+    ∙ ap (refusedReading NoRoom) offset)
+    (λ e.
+    let full : other ≤ s .«count» = ltb-false _ _ e in
+    let offset : s .«at» ≡ s .«at» + 37 * (other - s .«count») = omega arith in
+    ap (afterStep n b t places) (full-refuses b t r rest i at read few full) ∙ ap (refusedReading NoRoom) offset)
 
 pub room-short : RoomShort
 unfolding Short startOf

@@ -20,6 +20,7 @@ unfoldable pub unsigned : ℤ → ℕ
 unsigned (pos n) = n
 unsigned (negsuc n) = 2 ^ 32 - suc n
 
+-- the signed number in the four bytes from `at`
 unfoldable pub i32At : List ℕ → (at : ℕ) → ℤ
 i32At b at = signed (u32At b at)
 

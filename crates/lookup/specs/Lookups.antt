@@ -25,6 +25,7 @@ pub record LookupReply : Type 0 where
   pub position : ℕ
   pub place : Place
 
+-- the place that was found, and its position
 abbrev pub foundReply : (position : ℕ) → Place → LookupReply
 foundReply k p = record { number = 0; offset = 0; position = k; place = p }
 

@@ -1,5 +1,5 @@
 -- What the loop over a table needs: a turn, and the end. Its invariant: the best so far with the places that are left comes to the best of all. Assumes nothing.
-use mathlib.Core.Bool.{Bool, true, false, cond}
+use mathlib.Core.Bool.{Bool, true, false, cond, _&&_}
 use mathlib.Core.List.{List, [], _∷_}
 use mathlib.Core.Path.{_≡_, refl, sym, _∙_}
 use Prim.Native.Nat.{ℕ, suc, _+_, _≤_, _<_}
@@ -12,7 +12,8 @@ use Rattle.place.specs.declared.Place.{Place}
 use Rattle.place.specs.Places.{blankPlace}
 use Rattle.nearest.specs.declared.Candidate.{Candidate}
 use Rattle.nearest.specs.declared.Best.{Best}
-use Rattle.nearest.specs.Taps.{candidateAt, isWithinReach, withinReachFrom, bestOf}
+use Rattle.nearest.specs.declared.Best.the-variants.{Nothing, Found}
+use Rattle.nearest.specs.Taps.{candidateAt, isWithinReach, withinReachFrom, isFirst, isBetter, better, bestOf}
 
 module _ (x y : ℤ) (squaredReach : ℕ) where
   -- the best of a place and those after it
@@ -24,6 +25,19 @@ module _ (x y : ℤ) (squaredReach : ℕ) where
       by-test : (c : Candidate) (cs : List Candidate) (t : Bool) → bestOf b (cond t (c ∷ cs) cs) ≡ bestOf (bestOf b (cond t (c ∷ []) [])) cs
       by-test c cs true = refl
       by-test c cs false = refl
+
+  -- the best after a place: its candidate where that is better
+  by-reach : (b : Best) (c : Candidate) (t : Bool) → cond (t && isFirst b c) (Found c) b ≡ bestOf b (cond t (c ∷ []) [])
+  unfolding bestOf better
+  by-reach Nothing c true = refl
+  by-reach (Found b) c true = refl
+  by-reach Nothing c false = refl
+  by-reach (Found b) c false = refl
+
+  pub best-after : (b b′ : Best) (c : Candidate) (k : ℕ) (p : Place) (s : Bool) → c ≡ candidateAt x y p k → s ≡ isBetter b c squaredReach → b′ ≡ cond s (Found c) b →
+      b′ ≡ bestOf b (withinReachFrom k (p ∷ []) x y squaredReach)
+  unfolding isBetter withinReachFrom
+  best-after b b′ c k p s e f g = g ∙ rw (f, e) (by-reach b (candidateAt x y p k) (isWithinReach x y squaredReach p))
 
   -- p is the place that the turn read, b′ the best after it
   pub fold-more : (t : List Place) (best b b′ : Best) (k : ℕ) (p : Place) → k < length t → p ≡ getD t k blankPlace → b′ ≡ bestOf b (withinReachFrom k (p ∷ []) x y squaredReach) →

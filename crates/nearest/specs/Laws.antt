@@ -48,7 +48,7 @@ NearestIsLeast = (t : List Place) (x y reach : ℤ) (k : ℕ) → nearestReply t
 abbrev pub LeastIsNearest : Type 0
 LeastIsNearest = (t : List Place) (x y reach : ℤ) (k : ℕ) → tapInRange x y reach ≡ true → IsNearest t x y reach k → nearestReply t x y reach ≡ accepted (pos k ∷ [])
 
--- 13 comes back exactly when no place has squared distance at most reach² (NearestLaws)
+-- for a tap in range 13 comes back exactly when no place has squared distance at most reach² (NearestLaws)
 abbrev pub NoneInReach : List Place → (x y reach : ℤ) → Type 0
 NoneInReach t x y reach = (k : ℕ) → k < length t → squared reach < squaredDistanceAt t x y k
 

@@ -1,5 +1,5 @@
 -- Document 01, 'Taps'.
-use mathlib.Core.Bool.{Bool, cond, _&&_, _||_}
+use mathlib.Core.Bool.{Bool, true, cond, _&&_, _||_}
 use mathlib.Core.List.{List, [], _∷_}
 use Prim.Native.Nat.{ℕ, suc, _+_}
 use lib.Dec.{leb, ltb, eqb}
@@ -59,6 +59,15 @@ bestOf b (c ∷ cs) = bestOf (better b c) cs
 -- within reach: squared distance at most reach²
 abbrev pub isWithinReach : (x y : ℤ) (squaredReach : ℕ) → Place → Bool
 isWithinReach x y squaredReach p = leb (squaredDistance x y p) squaredReach
+
+-- whether a candidate comes before the best so far
+abbrev pub isFirst : Best → Candidate → Bool
+isFirst Nothing c = true
+isFirst (Found b) c = isBefore c b
+
+-- and is within reach
+unfoldable pub isBetter : Best → Candidate → (squaredReach : ℕ) → Bool
+isBetter best c squaredReach = leb (c .«squared_distance») squaredReach && isFirst best c
 
 -- the places of a table that are within reach; its first has the position k
 unfoldable pub withinReachFrom : (k : ℕ) → List Place → (x y : ℤ) (squaredReach : ℕ) → List Candidate

@@ -4,7 +4,7 @@ ghost use mathlib.Core.Path.{_≡_};
 ghost use mathlib.Core.List.{[], _∷_};
 ghost use lib.IntN.{pos};
 ghost use Rattle.arith.specs.Bounds.{Size};
-ghost use Rattle.nearest.specs.Taps.{tapLimit, tapInRange, squared, squaredDistance, candidateAt, isBefore, withinReachFrom, better, bestOf, bestReply, nearestReply, differenceLimit, usualReach, nearestReplyOf};
+ghost use Rattle.nearest.specs.Taps.{tapLimit, tapInRange, squared, squaredDistance, candidateAt, isBefore, withinReachFrom, isBetter, bestOf, bestReply, nearestReply, differenceLimit, usualReach, nearestReplyOf};
 ghost use Rattle.nearest.specs.declared.Best.the-variants.{Nothing};
 use place::Place;
 use refusal::Refusal;
@@ -115,39 +115,26 @@ fn best_of(table: &[Place], x: i64, y: i64, squared_reach: u64) -> Best
     let mut k = 0;
     while k < table.len() {
         let place = table::place_at_unchecked(table, k);
-        best = best_after(best, place, k, x, y, squared_reach);
+        let candidate = candidate_at(place, k, x, y);
+        if is_better(best, candidate, squared_reach) {
+            best = Best::Found(candidate);
+        }
         k += 1;
     }
     best
 }
 
-// The best so far, once the place at a position has been looked at too.
-fn best_after(best: Best, place: Place, position: usize, x: i64, y: i64, squared_reach: u64) -> Best
-    requires { ⌜ Size (pos tapLimit) x ⌝ }
-    requires { ⌜ Size (pos tapLimit) y ⌝ }
-    ensures { λ r. ⌜ r ≡ bestOf best (withinReachFrom position (place ∷ []) x y «squared_reach») ⌝ }
+// Whether a candidate is within reach and comes before the best so far.
+fn is_better(best: Best, candidate: Candidate, squared_reach: u64) -> bool
+    ensures { λ r. ⌜ r ≡ isBetter best candidate «squared_reach» ⌝ }
 {
-    let candidate = candidate_at(place, position, x, y);
     if candidate.squared_distance <= squared_reach {
-        better(best, candidate)
-    } else {
-        best
-    }
-}
-
-// The best so far or a candidate, whichever comes first.
-fn better(best: Best, candidate: Candidate) -> Best
-    ensures { λ r. ⌜ r ≡ better best candidate ⌝ }
-{
-    match best {
-        Best::Nothing => Best::Found(candidate),
-        Best::Found(b) => {
-            if is_before(candidate, b) {
-                Best::Found(candidate)
-            } else {
-                best
-            }
+        match best {
+            Best::Nothing => true,
+            Best::Found(b) => is_before(candidate, b),
         }
+    } else {
+        false
     }
 }
 

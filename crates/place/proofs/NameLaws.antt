@@ -1,6 +1,6 @@
 -- A name by the test is 1 to 16 printable bytes, then zeros; and back. Assumes nothing.
 use mathlib.Core.Path.{_≡_, refl, sym, ap, _∙_}
-use mathlib.Core.Bool.{Bool, true, false, _&&_, _||_, or-true, false≢true}
+use mathlib.Core.Bool.{true, _&&_, or-true, false≢true}
 use mathlib.Mathlib.Data.Bool.Basic.{and-elim-left, and-elim-right}
 use mathlib.Core.List.{List, [], _∷_, _++_}
 use Prim.Native.Nat.{ℕ, zero, suc, _+_, _-_, _≤_, _<_}
@@ -8,6 +8,7 @@ use native.Mathlib.Omega.{arith}
 use borrow.Author.Tests.{eqb-true}
 use lib.Dec.{eqb}
 use lib.ListN.{getD, length, replicate, length-append, length-replicate}
+use Rattle.arith.proofs.Choose.{by-test}
 use Rattle.place.specs.Names.{isPrintable, areZeros, arePrintableThenZeros, isName}
 use Rattle.place.specs.Laws.{IsName, NameHolds, HoldsName}
 
@@ -34,21 +35,18 @@ zeros (b ∷ bs) e = λ i. eqb-true b 0 (and-elim-right (areZeros bs) _ e) i ∷
 no-text : (bs : List ℕ) → areZeros bs ≡ true → TextThenZeros bs
 no-text bs e = record { text = []; printable = λ i h. absurd (omega arith); rest = length bs; filled = zeros bs e }
 
-split-from : (b : ℕ) (bs : List ℕ) (t : Bool) → areZeros (b ∷ bs) ≡ t → (t || (arePrintableThenZeros bs && isPrintable b)) ≡ true →
-    (arePrintableThenZeros bs ≡ true → TextThenZeros bs) → TextThenZeros (b ∷ bs)
-split-from b bs true z e f = no-text (b ∷ bs) z
-split-from b bs false z e f =
-    let s = f (and-elim-left (arePrintableThenZeros bs) _ e) in
-    record {
-      text = b ∷ s .text;
-      printable = one-more b (s .text) (and-elim-right (arePrintableThenZeros bs) _ e) (s .printable);
-      rest = s .rest;
-      filled = ap (λ l. b ∷ l) (s .filled);
-    }
-
 split : (bs : List ℕ) → arePrintableThenZeros bs ≡ true → TextThenZeros bs
 split [] e = no-text [] refl
-split (b ∷ bs) e = split-from b bs (areZeros (b ∷ bs)) refl e (split bs)
+split (b ∷ bs) e =
+    by-test (areZeros (b ∷ bs)) (no-text (b ∷ bs)) (λ z.
+    let both : (arePrintableThenZeros bs && isPrintable b) ≡ true = rw z at e in
+    let s = split bs (and-elim-left (arePrintableThenZeros bs) _ both) in
+    record {
+      text = b ∷ s .text;
+      printable = one-more b (s .text) (and-elim-right (arePrintableThenZeros bs) _ both) (s .printable);
+      rest = s .rest;
+      filled = ap (λ l. b ∷ l) (s .filled);
+    })
 
 first-printable : (ls : List ℕ) (k : ℕ) → isPrintable (getD (ls ++ replicate k 0) 0 0) ≡ true → 1 ≤ length ls
 first-printable [] zero e = absurd (false≢true e)

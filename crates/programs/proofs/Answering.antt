@@ -8,14 +8,13 @@ use borrow.Author.Tests.{ltb-true, ltb-false, ne-eqb}
 use lib.Dec.{eqb, ltb}
 use lib.ListN.{length, getD, take, drop, length-append, length-set, length-take}
 use lib.Seq.{take-all, take-at, take-append-le, take-suc-set, getD-take, drop-cons}
-use Rattle.arith.proofs.Choose.{choose}
+use Rattle.arith.proofs.Choose.{choose, by-test}
 use Rattle.sheet.specs.declared.Sheet.{Sheet}
 use Rattle.place.specs.declared.Place.{Place}
 use Rattle.atlas_file.specs.Reading.{readReply, placesRead}
 use Rattle.integrity.proofs.Accepted.{count-is-places}
 use Rattle.text.specs.Lines.{newline}
 use Rattle.text.specs.TapLines.{startSize}
-use Rattle.text.proofs.ByTest.{by-test}
 use Rattle.text.proofs.TapLaws.{first-bytes-tell}
 use Rattle.programs.specs.declared.Begun.{Begun}
 use Rattle.programs.specs.Tapping.{answerTo, answersAfter, tapOutput, bytesOf, nothingBegun, begunWith, begunAfter, begunBy, printedAt, printedBy, printedAtEnd, partSize, taken}

@@ -2,12 +2,11 @@
 use mathlib.Core.Bool.{true}
 use mathlib.Core.List.{_++_}
 use mathlib.Core.Path.{_≡_}
-use mathlib.Mathlib.Data.Bool.Basic.{and-elim-left}
 use lib.IntN.{ℤ}
-use Rattle.refusal.proofs.InOrder.{not-refused-all-hold, both-hold}
+use Rattle.refusal.proofs.InOrder.{each-holds, not-refused-all-hold, both-hold}
 use Rattle.sheet.specs.declared.Sheet.{Sheet}
 use Rattle.sheet.specs.Sheets.{sheetRules}
-use Rattle.conic.specs.MapToGlobe.{pointInRange, pointRules, latitudeOf, longitudeOf, heldReply, inverseReply}
+use Rattle.conic.specs.MapToGlobe.{pointRules, latitudeOf, longitudeOf, heldReply, inverseReply}
 use Rattle.nearest.specs.Taps.{tapInRange, usualReach}
 use Rattle.nearest.proofs.NearestLaws.{least-is-nearest, none-in-reach-refused}
 use Rattle.programs.specs.Tapping.{nearLine, pointLine}
@@ -18,7 +17,7 @@ in-range : (s : Sheet) (x y : ℤ) → inverseReply s x y .number ≡ 0 → tapI
 unfolding pointRules
 in-range s x y e =
     let all = not-refused-all-hold 2 (sheetRules s ++ pointRules s x y) (heldReply s (latitudeOf s x y) (longitudeOf s x y)) e in
-    rw (and-elim-left (pointInRange x y) _ (both-hold (sheetRules s) (pointRules s x y) all .1))
+    rw (each-holds (pointRules s x y) (both-hold (sheetRules s) (pointRules s x y) all .1) .0)
 
 pub none-in-reach-dash : NoneInReachDash
 unfolding pointLine nearLine

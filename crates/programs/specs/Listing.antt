@@ -16,10 +16,12 @@ use Rattle.text.specs.Lines.{countLine, placeLine, fileRefusedLine}
 abbrev pub Stands : (at : ℕ) (text : List ℕ) (end : ℕ) (before after : List ℕ) → Type 0
 Stands at text end before after = (end ≡ at + length text) × (after ≡ put before at text)
 
+-- a line per place
 abbrev pub placeLines : List Place → List ℕ
 placeLines [] = []
 placeLines (p ∷ ps) = placeLine p ++ placeLines ps
 
+-- all that the lister prints of a file
 unfoldable pub listingOf : (file : List ℕ) → List ℕ
 listingOf file =
     let reply = readReply file mostPlaces in

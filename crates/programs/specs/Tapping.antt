@@ -21,8 +21,8 @@ use Rattle.programs.specs.declared.Begun.{Begun}
 abbrev pub valueAt : ℕ → Reply → ℤ
 valueAt n reply = getD (reply .values) n (pos 0)
 
--- It prints latitude, longitude and the id of the nearest place at the usual reach, or `-` for none; (the point is in range here, so that none is 13:
--- Laws, NoneInReachDash)
+-- It prints latitude, longitude and the id of the nearest place at the usual reach, or `-` for none: that is 13, since the point is in range here
+-- (Laws: NoneInReachDash)
 unfoldable pub nearLine : List Place → (x y latitude longitude : ℤ) → List ℕ
 nearLine ps x y latitude longitude =
     let near = nearestReply ps x y usualReach in

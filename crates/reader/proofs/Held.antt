@@ -109,14 +109,6 @@ module _ {M : Type 1} (𝓤 : URA M) (H : Heap 𝓤) (A : Atoms 𝓤) (W : Given
   enter x ρ b = subst (λ (τ : Ty). ent 𝓤 (sep 𝓤 (H .at fullShare τ b zero (e .val κs x)) (sem 𝓤 H A (R .own x (vl x)))) (mean 𝓤 H A (rowI 𝓤 H A ρ (whole (e .F κs)) x b))) (e .same κs)
       (makes-mem 𝓤 H A W (λ (ρ′ : Rho). Unit {0}) R (e .one κs) (whole (e .F κs)) (λ ys. ys) (λ ρ′ _. whole-mem 𝓤 H A W (e .F κs) ρ′) ρ tt x (e .val κs x) b)
 
-  -- a local that holds the value gives its room, and what it owns
-  pub exit-own : (ρ : Rho) (c : R .Denot) (b : ℕ) → ent 𝓤 (mean 𝓤 H A (rowI 𝓤 H A ρ (whole (e .F κs)) c b)) (sep 𝓤 (H .room (e .σ) b zero) (sem 𝓤 H A (R .own c (vl c))))
-  exit-own ρ c b = subst (λ (τ : Ty). ent 𝓤 (mean 𝓤 H A (rowI 𝓤 H A ρ (whole (e .F κs)) c b)) (sep 𝓤 (H .room τ b zero) (sem 𝓤 H A (R .own c (vl c))))) (e .same κs)
-      (qed W (rowI 𝓤 H A ρ (whole (e .F κs)) c b ∷ []) {P = sep 𝓤 (H .room (lone (R .mir)) b zero) (sem 𝓤 H A (R .own c (vl c)))} (
-      use1 W (some (λ (v : Val). ‵ (fat fullShare (lone (R .mir)) b zero v) ⊛ (‵ (R .own c (v ∷ [])) ⊛ raw (wand 𝓤 (H .at fullShare (lone (R .mir)) b zero v) (H .room (lone (R .mir)) b zero)))))
-      (yields-move 𝓤 H A W (λ (ρ′ : Rho). Unit {0}) R (e .one κs) (whole (e .F κs)) (λ ys. ys) (λ ρ′ _. mem-whole 𝓤 H A W (e .F κs) ρ′) ρ tt c b) $ pick ! (λ v. split ! $ move ! (1 ∷ []) $ split ! $ move ! (1 ∷ []) $ drop ! $
-      use1 W (given ((v ∷ [] ≡ vl c) × Is R c (vl c)) (‵ (R .own c (vl c)))) (own-in c (v ∷ [])) $ learn ! (λ q. move ! (1 ∷ []) $ forget ! 0 refl $ done !))))
-
   -- ---- for the result's kind
   pub tellsʳ : (x : R .Denot) (vs : List Val) → Is R x vs → vs ≡ vl x
   tellsʳ x vs i = e .tells κs x vs i
@@ -136,6 +128,12 @@ module _ {M : Type 1} (𝓤 : URA M) (H : Heap 𝓤) (A : Atoms 𝓤) (W : Given
       (yields-move 𝓤 H A W (λ (ρ′ : Rho). Unit {0}) R (e .one κs) (whole (e .F κs)) (λ ys. ys) (λ ρ′ _. mem-whole 𝓤 H A W (e .F κs) ρ′) ρ tt c b) $ pick ! (λ v. split ! $ move ! (1 ∷ []) $ split ! $ move ! (1 ∷ []) $ drop ! $
       use1 W (given ((v ∷ [] ≡ vl c) × Is R c (vl c)) (‵ (R .own c (vl c)))) (own-in c (v ∷ [])) $ learn ! (λ q. check ! (q .1) $ move ! (1 ∷ 0 ∷ []) $
       by ! (subst (λ (w : Val). ent 𝓤 (sep 𝓤 (H .at fullShare (lone (R .mir)) b zero v) (sem 𝓤 H A (R .own c (vl c)))) (sep 𝓤 (H .at fullShare (lone (R .mir)) b zero w) (sem 𝓤 H A (R .own c (vl c))))) (ap only (q .0)) (id⊢ 𝓤 _))))))
+
+  -- so a local that holds the value gives its room, and what it owns
+  pub exit-own : (ρ : Rho) (c : R .Denot) (b : ℕ) → ent 𝓤 (mean 𝓤 H A (rowI 𝓤 H A ρ (whole (e .F κs)) c b)) (sep 𝓤 (H .room (e .σ) b zero) (sem 𝓤 H A (R .own c (vl c))))
+  exit-own ρ c b =
+      qed W (rowI 𝓤 H A ρ (whole (e .F κs)) c b ∷ []) {P = sep 𝓤 (H .room (e .σ) b zero) (sem 𝓤 H A (R .own c (vl c)))} (
+      use1 W (given (Is R c (vl c)) (‵ (fat fullShare (e .σ) b zero (e .val κs c)) ⊛ ‵ (R .own c (vl c)))) (res-out ρ c b) $ learn ! (λ q. split ! $ forget ! 0 refl $ done !))
 
   -- at a call the returned value is stored in the destination
   pub res-lands : (τ : Ty) (x : R .Denot) (v : Val) → Is R x (v ∷ []) → (b : ℕ) → ent 𝓤 (sep 𝓤 (H .at fullShare τ b zero v) (sem 𝓤 H A (R .own x (vl x)))) (ex 𝓤 (λ (w : Val). sep 𝓤 (H .at fullShare τ b zero w) (sem 𝓤 H A (R .own x (w ∷ [])))))

@@ -1,9 +1,8 @@
 -- The laws of a place's record and of the end record. Assumes nothing.
-use mathlib.Core.Path.{_≡_, refl, sym, ap, _∙_}
+use mathlib.Core.Path.{_≡_, refl, sym}
 use mathlib.Core.List.{[]}
 use native.Mathlib.Omega.{arith}
-use Prim.Native.Nat.{suc}
-use lib.ListN.{getD, drop, length-drop, length-take, drop-of-length-le}
+use lib.ListN.{drop, length-drop, length-take, drop-of-length-le}
 use lib.Seq.{take-all}
 use Rattle.place.specs.declared.Place.{Place}
 use Rattle.records.specs.declared.Record.the-variants as records
@@ -40,13 +39,13 @@ place-back p h =
     (take-all 16 (p .«name») (omega (arith, h .name)))
 
 pub place-length : PlaceLength
-place-length r k = k .whole ∙ ap suc (row records.Place (getD r 0 0) (k .body) (k .layout) .1)
+place-length r k = row k .1
 
 pub place-forth : PlaceForth
 unfolding placeOf placeRecord numbersBytes u32Bytes
 place-forth r k b =
     let n = place-length r k in
-    whole-record 2 (row records.Place (getD r 0 0) (k .body) (k .layout) .0) (omega arith)
+    whole-record 2 (row k .0) (omega arith)
     (u32-then r b 1 (omega arith)
     (i32-then r b 5 (omega arith)
     (i32-then r b 9 (omega arith)
@@ -74,10 +73,10 @@ unfolding endOf endRecord numbersBytes u32Bytes
 end-back count h = u32-back count [] h
 
 pub end-length : EndLength
-end-length r k = k .whole ∙ ap suc (row records.End (getD r 0 0) (k .body) (k .layout) .1)
+end-length r k = row k .1
 
 pub end-forth : EndForth
 unfolding endOf endRecord numbersBytes
 end-forth r k b =
     let n = end-length r k in
-    whole-record 3 (row records.End (getD r 0 0) (k .body) (k .layout) .0) (omega arith) (u32-then r b 1 (omega arith) (sym (drop-of-length-le r {i = 5} (omega arith))))
+    whole-record 3 (row k .0) (omega arith) (u32-then r b 1 (omega arith) (sym (drop-of-length-le r {i = 5} (omega arith))))

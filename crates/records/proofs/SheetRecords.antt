@@ -1,9 +1,9 @@
 -- The laws of a sheet's record. Assumes nothing.
-use mathlib.Core.Path.{_≡_, refl, sym, ap, _∙_}
+use mathlib.Core.Path.{_≡_, refl, sym}
 use mathlib.Core.List.{List, []}
 use native.Mathlib.Omega.{arith}
-use Prim.Native.Nat.{ℕ, suc}
-use lib.ListN.{getD, length, drop-of-length-le}
+use Prim.Native.Nat.{ℕ}
+use lib.ListN.{length, drop-of-length-le}
 use Rattle.sheet.specs.declared.Sheet.{Sheet}
 use Rattle.records.specs.declared.Record.the-variants as records
 use Rattle.little_endian.specs.Numbers.{i32At, u32Bytes, numbersBytes}
@@ -56,13 +56,13 @@ sheet-back s h =
 
 -- all have one length
 pub sheet-has-length : (r : List ℕ) → IsRecord records.Sheet r → length r ≡ 37
-sheet-has-length r k = k .whole ∙ ap suc (row records.Sheet (getD r 0 0) (k .body) (k .layout) .1)
+sheet-has-length r k = row k .1
 
 pub sheet-forth : SheetForth
 unfolding sheetOf sheetRecord numbersBytes
 sheet-forth r k b =
     let n = sheet-has-length r k in
-    whole-record 1 (row records.Sheet (getD r 0 0) (k .body) (k .layout) .0) (omega arith)
+    whole-record 1 (row k .0) (omega arith)
     (i32-then r b 1 (omega arith)
     (i32-then r b 5 (omega arith)
     (i32-then r b 9 (omega arith)

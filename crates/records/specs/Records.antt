@@ -92,7 +92,7 @@ endOf r = u32At r 1
 unfoldable pub endRecord : ℕ → List ℕ
 endRecord count = 3 ∷ numbersBytes (count ∷ [])
 
--- what the types of the fields hold
+-- what the types of the fields hold; of a name only that it has 16 entries
 pub record IsSheet (s : Sheet) : Type 0 where
   pub f1 : IsI32 (s .«first_parallel»)
   pub f2 : IsI32 (s .«second_parallel»)

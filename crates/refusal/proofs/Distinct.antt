@@ -1,10 +1,14 @@
--- Two refusals never share a number, and none has the number 0; so replies are told apart. Assumes nothing.
+-- Two refusals never share a number, and none has the number 0 or one above 15; so replies are told apart. Assumes nothing.
+use mathlib.Core.Bool.{false}
 use mathlib.Core.Path.{_≡_, refl, sym, ap, _∙_}
 use mathlib.Core.List.{List, [], _∷_}
-use Prim.Native.Nat.{ℕ}
+use Prim.Native.Nat.{ℕ, _≤_, _<_}
+use native.Mathlib.Nat.{lt-of-not-le}
 use native.Mathlib.Omega.{arith}
+use borrow.Author.Tests.{ne-eqb}
+use lib.Dec.{eqb}
 use lib.IntN.{ℤ}
-use lib.ListN.{getD}
+use lib.ListN.{getD, List·getD-eq-default}
 use Rattle.refusal.specs.declared.Refusal.{Refusal}
 use Rattle.refusal.specs.declared.Refusal.the-variants.{Cut, Kind, TrailingBytes, SheetLimit, SheetConstants, IdOrder, PlaceOffSheet, PlacePosition, EndCount, NoRoom, OffSheet, OutOfRange, NothingInReach, Name, AnswerOffSheet}
 use Rattle.refusal.specs.Numbers.{numberOf, Reply, accepted, refused, DistinctNumbers, NoNumberZero}
@@ -45,6 +49,19 @@ distinct-numbers r s e = sym (refusal-of-number r) ∙ ap refusalOf e ∙ refusa
 pub no-number-zero : NoNumberZero
 unfolding byNumber refusalOf
 no-number-zero r e = let cut : Cut ≡ r = rw e at (refusal-of-number r) in let k = ap numberOf cut in omega arith
+
+-- by the test of the definitions
+pub not-zero : (r : Refusal) → eqb (numberOf r) 0 ≡ false
+not-zero r = ne-eqb (numberOf r) 0 (no-number-zero r)
+
+-- past the list is Cut too
+pub number-most : (r : Refusal) → numberOf r < 16
+unfolding byNumber refusalOf
+number-most r =
+    lt-of-not-le (λ (h : 16 ≤ numberOf r).
+    let cut : Cut ≡ r = rw (List·getD-eq-default byNumber Cut h) at (refusal-of-number r) in
+    let k = ap numberOf cut in
+    omega arith)
 
 -- ---- of replies
 

@@ -1,28 +1,19 @@
 -- What an answer by rules in order tells. Assumes nothing.
 use mathlib.Core.Bool.{Bool, true, false, cond}
-use mathlib.Core.Path.{_≡_, refl, ap, sym}
-use mathlib.Core.List.{[], _∷_, _++_}
+use mathlib.Core.Path.{_≡_, refl, ap, sym, _∙_}
+use mathlib.Core.List.{List, [], _∷_, _++_}
 use mathlib.Mathlib.Data.Bool.Basic.{and-elim-left, and-elim-right}
 use Prim.Native.Nat.{ℕ}
 use Rattle.refusal.specs.declared.Refusal.{Refusal}
 use Rattle.refusal.specs.Numbers.{Reply, accepted, refused}
-use Rattle.refusal.specs.Rules.{allHold}
+use Rattle.refusal.specs.Rules.{Rule, allHold}
 use Rattle.refusal.specs.Laws.{AcceptedAllHold, NotRefusedAllHold, OthersDecide, RefusedFirst, BothHold, HoldTogether, AgreeBehind, InTurn, AllHoldGood, RefusedBad, ByOutcome, ByOutcomes}
 use Rattle.refusal.proofs.Distinct.{no-number-zero, number-of, same-refusal, accepted-or-refused}
 
--- one rule: the number 0 goes past it, a refusal is its own or goes past it
+-- one rule: the number 0 goes past it
 zero-past : (holds : Bool) (k : ℕ) (q : Refusal) (reply : Reply) → cond holds reply (refused k q) .number ≡ 0 → (holds ≡ true) × (reply .number ≡ 0)
 zero-past true k q reply e = (refl, e)
 zero-past false k q reply e = absurd (no-number-zero q e)
-
-refused-past : (holds : Bool) (j k : ℕ) (r q : Refusal) (p reply : Reply) → (refused j r ≡ p → refused k r ≡ reply) →
-    refused j r ≡ cond holds p (refused j q) → refused k r ≡ cond holds reply (refused k q)
-refused-past true j k r q p reply f e = f e
-refused-past false j k r q p reply f e = ap (refused k) (same-refusal j j r q e)
-
-agree-past : (holds : Bool) (p q reply : Reply) → (holds ≡ true → p ≡ q) → cond holds p reply ≡ cond holds q reply
-agree-past true p q reply f = f refl
-agree-past false p q reply f = refl
 
 pub not-refused-all-hold : NotRefusedAllHold
 not-refused-all-hold k [] reply e = refl
@@ -31,15 +22,14 @@ not-refused-all-hold k (rule ∷ rules) reply e = let p = zero-past (rule .holds
 pub accepted-all-hold : AcceptedAllHold
 accepted-all-hold k rules us vs e = not-refused-all-hold k rules (accepted vs) (sym (number-of e))
 
-pub others-decide : OthersDecide
-others-decide k [] others reply e = refl
-others-decide k (rule ∷ rules) others reply e =
-    rw (and-elim-left (rule .holds) (allHold rules) e) (others-decide k rules others reply (and-elim-right (rule .holds) (allHold rules) e))
+-- where all the rules hold, each of them does
+abbrev pub EachHolds : List Rule → Type 0
+EachHolds [] = Unit {0}
+EachHolds (rule ∷ rules) = (rule .holds ≡ true) × EachHolds rules
 
-pub refused-first : RefusedFirst
-refused-first j k [] others vs reply r e = absurd (accepted-or-refused vs j r (sym e))
-refused-first j k (rule ∷ rules) others vs reply r e =
-    refused-past (rule .holds) j k r (rule .refusal) _ _ (refused-first j k rules others vs reply r) e
+pub each-holds : (rules : List Rule) → allHold rules ≡ true → EachHolds rules
+each-holds [] e = tt
+each-holds (rule ∷ rules) e = (and-elim-left (rule .holds) (allHold rules) e, each-holds rules (and-elim-right (rule .holds) (allHold rules) e))
 
 pub both-hold : BothHold
 both-hold [] others e = (refl, e)
@@ -51,10 +41,6 @@ pub hold-together : HoldTogether
 hold-together [] others e f = f
 hold-together (rule ∷ rules) others e f =
     rw (and-elim-left (rule .holds) (allHold rules) e) (hold-together rules others (and-elim-right (rule .holds) (allHold rules) e) f)
-
-pub agree-behind : AgreeBehind
-agree-behind k [] first second p q f = f refl
-agree-behind k (rule ∷ rules) first second p q f = agree-past (rule .holds) _ _ _ (λ h. agree-behind k rules first second p q (λ hs. f (rw h hs)))
 
 -- ---- of outcomes
 
@@ -87,3 +73,17 @@ by-outcomes A P (rule ∷ rules) first second bad other-bad f g =
 
 pub by-outcome : ByOutcome
 by-outcome A P rules good bad = by-outcomes A (λ a _. P a) rules good good bad bad
+
+-- ---- an answer in order is an outcome
+
+pub others-decide : OthersDecide
+others-decide k rules others reply e = in-turn Reply rules others reply (refused k) ∙ all-hold-good Reply rules _ (refused k) e
+
+pub refused-first : RefusedFirst
+refused-first j k rules others vs reply r e = sym (in-turn Reply rules others reply (refused k) ∙ refused-bad Reply j rules vs _ (refused k) r e)
+
+pub agree-behind : AgreeBehind
+agree-behind k rules first second p q f =
+    in-turn Reply rules first p (refused k)
+    ∙ by-outcomes Reply (λ a b. a ≡ b) rules _ _ (refused k) (refused k) f (λ r. refl)
+    ∙ sym (in-turn Reply rules second q (refused k))

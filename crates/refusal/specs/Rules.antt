@@ -23,6 +23,7 @@ outcome (rule ∷ rules) good bad = cond (rule .holds) (outcome rules good bad) 
 abbrev pub inOrder : ℕ → List Rule → Reply → Reply
 inOrder k rules reply = outcome rules reply (refused k)
 
+-- whether all the rules hold
 abbrev pub allHold : List Rule → Bool
 allHold [] = true
 allHold (rule ∷ rules) = rule .holds && allHold rules

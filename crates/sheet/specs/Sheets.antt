@@ -85,7 +85,7 @@ coneAgrees n f1 f2 = cond (ltZ f1 f2) (agrees (coneAngleOf n (f2 -ℤ f1)) (cosi
 unfoldable pub radiusAgrees : (n f1 r1 : ℤ) → Bool
 radiusAgrees n f1 r1 = agrees (coneAngleOf n r1) (cosineOf (angleOf f1))
 
--- both
+-- both hold
 unfoldable pub constantsAgree : Sheet → Bool
 constantsAgree s = coneAgrees (n s) (f1 s) (f2 s) && radiusAgrees (n s) (f1 s) (g s -ℤ f1 s)
 

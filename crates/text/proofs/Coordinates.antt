@@ -1,5 +1,6 @@
 -- A coordinate, by what its digits spell; and a line, by its two coordinates. Assumes nothing.
 use mathlib.Core.Bool.{Bool, true, false, cond, _&&_}
+use mathlib.Mathlib.Data.Bool.Basic.{eq-false-of-not-eq-true}
 use mathlib.Core.List.{List, [], _∷_}
 use mathlib.Core.Path.{_≡_, refl, sym, ap, _∙_}
 use Prim.Native.Nat.{ℕ, suc, _-_, _≤_, _<_, min}
@@ -9,6 +10,7 @@ use lib.Dec.{ltb, eqb}
 use lib.IntN.{ℤ, pos, negℤ, natAbs}
 use lib.ListN.{length, length-take, length-drop, getD, take, drop, drop-of-length-le}
 use lib.Seq.{take-all}
+use Rattle.arith.proofs.Choose.{by-test}
 use Rattle.arith.specs.Bounds.{sizeUpTo}
 use Rattle.arith.proofs.Order.{abs-neg, abs-size, size-abs, within-true, true-within}
 use Rattle.refusal.specs.declared.Refusal.the-variants.{OutOfRange}
@@ -19,7 +21,6 @@ use Rattle.text.specs.Decimals.{minus, isNumeral, isNumber, spelledFrom,
 use Rattle.text.specs.Lines.{space}
 use Rattle.text.specs.TapLines.{beforeSpace, afterSpace, lineReplyOf}
 use Rattle.text.specs.Coordinates.{valued, unread, coordinateOf, pointOf, sizedCoordinate, tooLarge, numeralOf}
-use Rattle.text.proofs.ByTest.{by-test}
 
 -- the size of a number with its sign
 size-of : (negative : Bool) (v : ℕ) → natAbs (cond negative (negℤ (pos v)) (pos v)) ≡ v
@@ -31,10 +32,7 @@ within-limit : (z : ℤ) → natAbs z < tooLarge → sizeUpTo pointLimit z ≡ t
 within-limit z h = true-within {z = z} (abs-size {m = pointLimit} (omega arith))
 
 past-limit : (z : ℤ) → tooLarge ≤ natAbs z → sizeUpTo pointLimit z ≡ false
-past-limit z h =
-    by-test (sizeUpTo pointLimit z)
-    (λ t. absurd (omega (arith, size-abs {z = z} {m = pointLimit} (within-true t))))
-    (λ f. f)
+past-limit z h = eq-false-of-not-eq-true {b = sizeUpTo pointLimit z} (λ t. omega (arith, size-abs {z = z} {m = pointLimit} (within-true t)))
 
 pub sized-is : (negative : Bool) (bs : List ℕ) → let z = cond negative (negℤ (pos (spelledFrom 0 bs))) (pos (spelledFrom 0 bs)) in
     sizedCoordinate negative (numeralOf bs) ≡ cond (isNumeral bs && sizeUpTo pointLimit z) (valued z) unread

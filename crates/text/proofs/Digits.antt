@@ -1,20 +1,16 @@
 -- The digits of a number. Assumes nothing.
-use mathlib.Core.Bool.{Bool, true, false, cond}
+use mathlib.Core.Bool.{cond}
 use mathlib.Core.List.{List, [], _∷_, _++_}
-use mathlib.Core.Path.{_≡_, refl}
+use mathlib.Core.Path.{_≡_}
 use Prim.Native.Nat.{ℕ, zero, suc, _+_, _*_, _≤_, _<_, _/_, _%_, _^_}
 use native.Mathlib.Omega.{arith}
 use native.Mathlib.Numerals.{unary-clauses}
 use borrow.Author.Tests.{ltb-true, ltb-false, lt-ltb, le-ltb}
 use lib.Dec.{ltb}
 use lib.ListN.{length, length-append}
+use Rattle.arith.proofs.Choose.{by-test, as-choice}
 use Rattle.text.specs.Decimals.{digit, digitsUpTo, decimal}
 use Rattle.text.specs.Laws.{OneDigit, MoreDigits, DigitsAtMost}
-use Rattle.text.proofs.ByTest.{by-test}
-
-as-choice : (c : Bool) (x y : List ℕ) → elim c [ true ↦ x | false ↦ y ] ≡ cond c x y
-as-choice true x y = refl
-as-choice false x y = refl
 
 turn : (k n : ℕ) → digitsUpTo (suc k) n ≡ cond (ltb n 10) (digit n ∷ []) (digitsUpTo k (n / 10) ++ (digit (n % 10) ∷ []))
 unfolding digitsUpTo

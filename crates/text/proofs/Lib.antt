@@ -1,5 +1,4 @@
 -- What holds of text.
-pub mod ByTest
 pub mod Digits
 pub mod Spelled
 pub mod Building

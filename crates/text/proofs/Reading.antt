@@ -6,9 +6,9 @@ use Prim.Native.Nat.{ℕ, _+_, _-_, _*_, min}
 use native.Mathlib.Omega.{arith}
 use borrow.Author.Tests.{ltb-true, ltb-false}
 use lib.Dec.{ltb}
+use Rattle.arith.proofs.Choose.{by-test}
 use Rattle.text.specs.Decimals.{isDigit, areDigits, spelledFrom}
 use Rattle.text.specs.Coordinates.{tooLarge, withDigit}
-use Rattle.text.proofs.ByTest.{by-test}
 
 -- digits behind a number
 abbrev pub capped : ℕ → List ℕ → ℕ

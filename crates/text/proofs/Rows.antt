@@ -1,16 +1,15 @@
 -- Rows of words: how they are made, and how long they are. Assumes nothing.
 use mathlib.Core.List.{List, [], _∷_}
 use mathlib.Core.Path.{_≡_, _∙_}
-use Prim.Native.Nat.{ℕ, suc, _+_, _≤_, _<_}
+use Prim.Native.Nat.{ℕ, suc, _+_, _≤_}
 use native.Mathlib.Omega.{arith}
-use lib.Dec.{lit<}
 use lib.IntN.{ℤ, pos, negsuc}
 use lib.ListN.{length, length-append}
 use mir.Syntax.{w32, w64}
 use mir.Val.{Fits, SFits}
 use Rattle.refusal.specs.declared.Refusal.{Refusal}
-use Rattle.refusal.specs.declared.Refusal.the-variants.{Cut, Kind, TrailingBytes, SheetLimit, SheetConstants, IdOrder, PlaceOffSheet, PlacePosition, EndCount, NoRoom, OffSheet, OutOfRange, NothingInReach, Name, AnswerOffSheet}
 use Rattle.refusal.specs.Numbers.{numberOf}
+use Rattle.refusal.proofs.Distinct.{number-most}
 use Rattle.text.specs.declared.Line.{Line}
 use Rattle.text.specs.Decimals.{decimal, signed}
 use Rattle.text.specs.Lines.{space, newline, row, lineSize, lineOf, Holds, withByte, withText}
@@ -40,25 +39,8 @@ long-32 {n} f = digits-at-most 9 n (let h = f .fits in omega arith)
 pub long-64 : {n : ℕ} → Fits w64 n → length (decimal n) ≤ 20
 long-64 {n} f = digits-at-most 19 n (let h = f .fits in omega arith)
 
-two-digits : (r : Refusal) → numberOf r < 100
-two-digits Cut = lit< tt
-two-digits Kind = lit< tt
-two-digits TrailingBytes = lit< tt
-two-digits SheetLimit = lit< tt
-two-digits SheetConstants = lit< tt
-two-digits IdOrder = lit< tt
-two-digits PlaceOffSheet = lit< tt
-two-digits PlacePosition = lit< tt
-two-digits EndCount = lit< tt
-two-digits NoRoom = lit< tt
-two-digits OffSheet = lit< tt
-two-digits OutOfRange = lit< tt
-two-digits NothingInReach = lit< tt
-two-digits Name = lit< tt
-two-digits AnswerOffSheet = lit< tt
-
 pub long-number : (r : Refusal) → length (decimal (numberOf r)) ≤ 2
-long-number r = digits-at-most 1 (numberOf r) (two-digits r)
+long-number r = digits-at-most 1 (numberOf r) (omega (arith, number-most r))
 
 pub long-signed-32 : {z : ℤ} → SFits w32 z → length (signed z) ≤ 11
 unfolding signed

@@ -10,6 +10,7 @@ use lib.Dec.{leb}
 use lib.IntN.{ℤ, pos, negsuc}
 use lib.ListN.{length, length-append, take}
 use lib.Seq.{length-take-le, take-all}
+use Rattle.arith.proofs.Choose.{by-test}
 use Rattle.arith.specs.Bounds.{Size, sizeUpTo}
 use Rattle.arith.proofs.Fits.{fits, within}
 use Rattle.arith.proofs.Order.{within-true}
@@ -20,7 +21,6 @@ use Rattle.text.specs.Decimals.{minus, decimal, signed, isDigit, areDigi
 use Rattle.text.specs.Lines.{space}
 use Rattle.text.specs.TapLines.{longestTap, startSize, beforeSpace, afterSpace, hasForm, xOf, yOf, lineRules, lineReply}
 use Rattle.text.specs.Laws.{TapReadsBack, FirstBytesTell}
-use Rattle.text.proofs.ByTest.{by-test}
 use Rattle.text.proofs.Rows.{long-signed-32}
 use Rattle.text.proofs.Spelled.{at-least, spell, reads-back}
 

@@ -14,6 +14,7 @@ use Rattle.text.specs.declared.LineAnswer.the-variants.{Point, Refused}
 use Rattle.text.specs.Decimals.{isNumber, spelled}
 use Rattle.text.specs.Lines.{space}
 
+-- at most 24 bytes before the newline
 abbrev pub longestTap : ℕ
 longestTap = 24
 
@@ -26,9 +27,11 @@ abbrev pub afterSpace : List ℕ → List ℕ
 afterSpace [] = []
 afterSpace (b ∷ bs) = cond (eqb b space) bs (afterSpace bs)
 
+-- x, one space, y, in at most so many bytes
 unfoldable pub hasForm : (line : List ℕ) → Bool
 hasForm line = leb (length line) longestTap && isNumber (beforeSpace line) && isNumber (afterSpace line)
 
+-- the numbers before and after the space
 unfoldable pub xOf : (line : List ℕ) → ℤ
 xOf line = spelled (beforeSpace line)
 

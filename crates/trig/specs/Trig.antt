@@ -32,7 +32,7 @@ sineRow = 6 ∷ 20 ∷ 42 ∷ 72 ∷ 110 ∷ 156 ∷ []
 abbrev pub cosineRow : List ℕ
 cosineRow = 2 ∷ 12 ∷ 30 ∷ 56 ∷ 90 ∷ 132 ∷ []
 
--- one of the two
+-- the row is one of the two
 abbrev pub IsRow : List ℕ → Type 0
 IsRow row = (row ≡ sineRow) ⊎ (row ≡ cosineRow)
 

@@ -1,7 +1,7 @@
 -- `atlas::check_list` meets its contract: the sheet's rules, then that on the number of places, then theirs. Assumes nothing.
 mod Lts
 mod Tie
-use mathlib.Core.Path.{_≡_, sym, ap, _∙_}
+use mathlib.Core.Path.{_≡_}
 use mathlib.Core.Bool.{true}
 use mathlib.Core.List.{[]}
 use borrow.Author.Needs.{needs}
@@ -11,7 +11,7 @@ use lib.ListN.{length}
 use Rattle.refusal.specs.Numbers.{accepted}
 use Rattle.refusal.specs.Rules.{allHold}
 use Rattle.refusal.proofs.InOrder.{others-decide, refused-first}
-use Rattle.sheet.specs.Sheets.{sheetRules, replyOf}
+use Rattle.sheet.specs.Sheets.{sheetRules}
 use Rattle.atlas_file.specs.Steps.{mostPlaces}
 use Rattle.atlas_file.specs.Writing.{listRules}
 use Rattle.atlas_file.proofs.ByVerdict.{all-hold}
@@ -51,7 +51,7 @@ unfolding listRules
 returns-3 c =
     let s = c .before .before .before .before in
     let told = c .before .verdict .given in
-    refused-first 0 0 (sheetRules (s .args .sheet)) _ [] (accepted []) (told .0 .0) (sym (ap replyOf (told .1)) ∙ c .before .before .before .check .ensures)
+    refused-first 0 0 (sheetRules (s .args .sheet)) _ [] (accepted []) (told .0 .0) (rw (told .1) at (c .before .before .before .check .ensures))
 
 pub check-list-spec : {M : Type 1} → statement M
 check-list-spec = tie.close (tie.spec check-requires enum-told returns check-places-requires enum-known-verdict returns-2 returns-3)

@@ -1,7 +1,7 @@
 -- `atlas::write` meets its contract. Assumes nothing.
 mod Lts
 mod Tie
-use mathlib.Core.Path.{_≡_, sym, ap, _∙_}
+use mathlib.Core.Path.{_≡_, ap, _∙_}
 use mathlib.Core.Bool.{true}
 use mathlib.Core.List.{[], _∷_}
 use native.Mathlib.Omega.{arith}
@@ -10,7 +10,6 @@ use denote.Ref.{now}
 use lib.IntN.{pos}
 use Rattle.refusal.specs.Numbers.{accepted}
 use Rattle.refusal.specs.Rules.{allHold}
-use Rattle.sheet.specs.Sheets.{replyOf}
 use Rattle.atlas_file.specs.Writing.{listRules}
 use Rattle.atlas_file.proofs.ByVerdict.{all-hold}
 use Rattle.integrity.proofs.Accepted.{list-parts}
@@ -56,7 +55,7 @@ returns-3 : tie.Need-returns-3
 returns-3 c =
     let s = c .before .before .before .before .before in
     let told = c .before .verdict .given in
-    refuses (s .args .sheet) (now (s .args .table)) (now (s .args .buffer)) (told .0 .0) (sym (ap replyOf (told .1)) ∙ c .before .before .before .check-list .ensures)
+    refuses (s .args .sheet) (now (s .args .table)) (now (s .args .buffer)) (told .0 .0) (rw (told .1) at (c .before .before .before .check-list .ensures))
 
 pub write-spec : {M : Type 1} → statement M
 write-spec = tie.close (tie.spec check-list-requires enum-told file-length-requires returns write-file-requires enum-known-verdict same-length returns-2 returns-3)

@@ -1,7 +1,9 @@
 -- `nearest::best_of` meets its contract. The loop's invariant: the best so far with the places from k on comes to the best of all. Assumes nothing.
 mod Lts
 mod Tie
-use mathlib.Core.Path.{_≡_, refl}
+use mathlib.Core.Bool.{true, false}
+use mathlib.Core.Logic.{⊎-elim}
+use mathlib.Core.Path.{_≡_, refl, sym, _∙_}
 use Prim.Native.Nat.{_-_, _≤_}
 use native.Mathlib.Omega.{arith}
 use borrow.Author.Needs.{needs}
@@ -11,7 +13,7 @@ use mir.Val.{toZ}
 use mir.Facts.{toZ-ofZ}
 use Rattle.nearest.specs.declared.Best.the-variants.{Nothing}
 use Rattle.nearest.specs.Taps.{withinReachFrom, bestOf}
-use Rattle.nearest.proofs.Turns.{fold-more, fold-done}
+use Rattle.nearest.proofs.Turns.{best-after, fold-more, fold-done}
 use Rattle.nearest.proofs.best_of.Statement.{statement}
 use Rattle.nearest.proofs.best_of.Proof.Tie as tie
 
@@ -29,8 +31,11 @@ loop-holds c = (search needs, refl)
 place-at-unchecked-requires : tie.Need-place-at-unchecked-requires Inv-loop μ-loop
 place-at-unchecked-requires c κs = search needs
 
-best-after-requires : tie.Need-best-after-requires Inv-loop μ-loop
-best-after-requires c κs = search needs
+candidate-at-requires : tie.Need-candidate-at-requires Inv-loop μ-loop
+candidate-at-requires c κs = search needs
+
+is-better-requires : tie.Need-is-better-requires Inv-loop μ-loop
+is-better-requires c κs = search needs
 
 add-k : tie.Need-add-k Inv-loop μ-loop
 add-k c = search needs
@@ -39,10 +44,16 @@ loop-less : tie.Need-loop-less Inv-loop μ-loop
 loop-less c = search needs
 
 loop-again : tie.Need-loop-again Inv-loop μ-loop
-loop-again c = (
-  search needs,
-  fold-more _ _ _ _ _ _ _ _ _ (omega arith) (c .before .place-at-unchecked .ensures) (c .best-after .ensures) (c .before .before .before .loop .inv .1),
-)
+loop-again c =
+    let d = c .before .before in
+    let l = d .before .before .before .loop in
+    let e = d .candidate-at .ensures in
+    let i = c .before .is-better .ensures in
+    let after = ⊎-elim
+    (λ w. best-after _ _ _ (l .best) (c .if1 .best) _ (l .k) _ true e (sym (w .0 .taken) ∙ i) (w .1))
+    (λ w. best-after _ _ _ (l .best) (c .if1 .best) _ (l .k) _ false e (sym (w .0 .left) ∙ i) (w .1))
+    (c .if1 .came) in
+    (search needs, fold-more _ _ _ _ _ _ _ _ _ (omega arith) (d .before .place-at-unchecked .ensures) after (l .inv .1))
 
 returns : tie.Need-returns Inv-loop μ-loop
 returns c =
@@ -50,4 +61,4 @@ returns c =
     rw (toZ-ofZ (s .fits .x), toZ-ofZ (s .fits .y)) at (fold-done _ _ _ _ _ _ _ (omega arith) (omega arith) (c .before .loop .inv .1))
 
 pub best-of-spec : {M : Type 1} → statement M
-best-of-spec = tie.close (tie.spec Inv-loop μ-loop loop-holds place-at-unchecked-requires best-after-requires add-k loop-less loop-again returns)
+best-of-spec = tie.close (tie.spec Inv-loop μ-loop loop-holds place-at-unchecked-requires candidate-at-requires is-better-requires add-k loop-less loop-again returns)

@@ -3,7 +3,6 @@ use mathlib.Core.Path.{_≡_, sym, _∙_}
 use mathlib.Core.Bool.{_&&_}
 use mathlib.Core.List.{[], _∷_}
 use borrow.Author.Needs.{needs}
-use borrow.Author.Tests.{ne-eqb}
 use lib.Dec.{eqb}
 use lib.IntN.{ℤ}
 use mir.Facts.{toZ-ofZ}
@@ -11,7 +10,7 @@ use mir.Syntax.{w32, w64}
 use mir.Val.{toZ, ofZ}
 use Rattle.arith.proofs.Fits.{fits, param, any, eq-same}
 use Rattle.refusal.specs.Numbers.{accepted}
-use Rattle.refusal.proofs.Distinct.{no-number-zero}
+use Rattle.refusal.proofs.Distinct.{not-zero}
 use Rattle.place.specs.Places.{isAt, placeRulesAt}
 use Rattle.place.proofs.Fields.{typed}
 use Rattle.place.proofs.verdict_at.Statement.{statement}
@@ -72,7 +71,7 @@ returns-3 c =
 
 returns-4 : tie.Need-returns-4
 unfolding placeRulesAt
-returns-4 c = rw (c .enum-told .given .1, c .before .before .if1 .taken, ne-eqb _ _ (no-number-zero (c .enum-told .given .0 .0)))
+returns-4 c = rw (c .enum-told .given .1, c .before .before .if1 .taken, not-zero (c .enum-told .given .0 .0))
 
 returns-5 : tie.Need-returns-5
 unfolding placeRulesAt

@@ -1,14 +1,10 @@
 -- `programs::answer` meets its contract. Assumes nothing.
 mod Lts
 mod Tie
-use mathlib.Core.Path.{sym, ap, _∙_}
 use borrow.Author.Needs.{needs}
-use borrow.Author.Tests.{ne-eqb}
 use mir.Facts.{toZ-ofZ}
 use mir.Syntax.{w64}
-use Rattle.refusal.specs.Numbers.{numberOf}
-use Rattle.refusal.proofs.Distinct.{no-number-zero}
-use Rattle.text.specs.TapLines.{lineReplyOf}
+use Rattle.refusal.proofs.Distinct.{not-zero}
 use Rattle.programs.specs.Tapping.{answerTo}
 use Rattle.programs.proofs.answer.Statement.{statement}
 use Rattle.programs.proofs.answer.Proof.Tie as tie
@@ -33,15 +29,14 @@ unfolding answerTo
 returns c =
     let k = c .before in
     let p = k .before in
-    rw (sym (p .before .before .point-of .ensures) ∙ ap lineReplyOf (p .point .given .1))
+    rw (← (rw (p .point .given .1) at (p .before .before .point-of .ensures)))
     (rw (toZ-ofZ {w = w64} (record { sfits = k .known-told .given .0 .1 }), toZ-ofZ {w = w64} (record { sfits = k .known-told .given .1 .0 .1 })) at (c .answer-at .ensures))
 
 returns-2 : tie.Need-returns-2
 unfolding answerTo
 returns-2 c =
     let p = c .before .before in
-    let r = p .point2 .given .0 .0 in
-    rw (sym (p .before .before .point-of .ensures) ∙ ap lineReplyOf (p .point2 .given .1), ne-eqb (numberOf r) 0 (no-number-zero r)) (c .refused-line .ensures)
+    rw (← (rw (p .point2 .given .1) at (p .before .before .point-of .ensures)), not-zero (p .point2 .given .0 .0)) (c .refused-line .ensures)
 
 pub answer-spec : {M : Type 1} → statement M
 answer-spec = tie.close (tie.spec point-of-requires enum-known-point answer-at-requires enum-known-point-2 refused-line-requires returns returns-2)

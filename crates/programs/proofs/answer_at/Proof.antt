@@ -1,13 +1,11 @@
 -- `programs::answer_at` meets its contract. Assumes nothing.
 mod Lts
 mod Tie
-use mathlib.Core.Path.{_≡_, sym, ap, _∙_}
+use mathlib.Core.Path.{_≡_}
 use borrow.Author.Needs.{needs}
-use borrow.Author.Tests.{ne-eqb}
 use mir.Facts.{toZ-ofZ}
 use mir.Syntax.{w64}
-use Rattle.refusal.specs.Numbers.{numberOf}
-use Rattle.refusal.proofs.Distinct.{no-number-zero}
+use Rattle.refusal.proofs.Distinct.{not-zero}
 use Rattle.conic.specs.MapToGlobe.{inverseReply, globeReplyOf}
 use Rattle.programs.specs.Tapping.{pointLine}
 use Rattle.programs.proofs.answer_at.Statement.{statement}
@@ -38,15 +36,14 @@ returns c =
     let k = c .before in
     let p = k .before in
     let f = p .before .before .before .fits in
-    rw (sym (replied (p .before .before)) ∙ ap globeReplyOf (p .position .given .1))
+    rw (← (rw (p .position .given .1) at (replied (p .before .before))))
     (rw (toZ-ofZ (f .x), toZ-ofZ (f .y), toZ-ofZ {w = w64} (record { sfits = k .known-told .given .0 .1 }), toZ-ofZ {w = w64} (record { sfits = k .known-told .given .1 .0 .1 })) at (c .nearest-to .ensures))
 
 returns-2 : tie.Need-returns-2
 unfolding pointLine
 returns-2 c =
     let p = c .before .before in
-    let r = p .position2 .given .0 .0 in
-    rw (sym (replied (p .before .before)) ∙ ap globeReplyOf (p .position2 .given .1), ne-eqb (numberOf r) 0 (no-number-zero r)) (c .refused-line .ensures)
+    rw (← (rw (p .position2 .given .1) at (replied (p .before .before))), not-zero (p .position2 .given .0 .0)) (c .refused-line .ensures)
 
 pub answer-at-spec : {M : Type 1} → statement M
 answer-at-spec = tie.close (tie.spec inverse-requires enum-known-position nearest-to-requires enum-known-position-2 refused-line-requires returns returns-2)

@@ -3,14 +3,12 @@ use mathlib.Core.Path.{_≡_, sym, ap, _∙_}
 use Prim.Native.Nat.{ℕ, _+_, _≤_}
 use native.Mathlib.Omega.{arith}
 use borrow.Author.Needs.{needs}
-use borrow.Author.Tests.{ne-eqb}
 use denote.Ref.{now}
 use lib.ListN.{length, length-append}
-use Rattle.refusal.specs.Numbers.{numberOf}
-use Rattle.refusal.proofs.Distinct.{no-number-zero}
+use Rattle.refusal.proofs.Distinct.{not-zero}
 use Rattle.little_endian.proofs.Puts.{put-append}
 use Rattle.atlas_file.specs.Steps.{mostPlaces}
-use Rattle.atlas_file.specs.Reading.{FileReply, acceptedFile, fileReplyOf, readReply, placesRead}
+use Rattle.atlas_file.specs.Reading.{FileReply, acceptedFile, readReply, placesRead}
 use Rattle.atlas.proofs.FilePlaces.{accepted-file}
 use Rattle.text.specs.Lines.{lineSize, countLine}
 use Rattle.text.proofs.Building.{held-text}
@@ -35,7 +33,7 @@ put-line-requires c κs = search needs
 
 -- the file is accepted, with the count of the answer
 told : (c : tie.After-answer) → acceptedFile (c .answer .given .0 .0) (c .answer .given .0 .1 .0) ≡ readReply (now (c .before .before .before .before .args .file)) mostPlaces
-told c = ap fileReplyOf (sym (c .answer .given .1)) ∙ c .before .before .read-through .ensures
+told c = rw (c .answer .given .1) at (c .before .before .read-through .ensures)
 
 -- the first line is put
 module _ (c : tie.After-put-line) where
@@ -80,10 +78,9 @@ unfolding listingOf
 returns-2 c =
     let f = c .before in
     let a = f .before .before .before in
-    let r = a .answer2 .given .0 .0 in
     let t = held-text _ _ (f .file-refused-line .ensures) in
     let e = c .put-line2 .ensures in
-    rw (← (ap fileReplyOf (sym (a .answer2 .given .1)) ∙ a .before .before .read-through .ensures), ne-eqb (numberOf r) 0 (no-number-zero r))
+    rw (← (rw (a .answer2 .given .1) at (a .before .before .read-through .ensures)), not-zero (a .answer2 .given .0 .0))
     (let n = rw t at (e .0) in omega (arith, n), rw t at (e .1))
 
 pub listing-spec : {M : Type 1} → statement M

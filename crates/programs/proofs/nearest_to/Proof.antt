@@ -5,13 +5,12 @@ use mathlib.Core.Path.{_≡_, sym, ap, _∙_}
 use mathlib.Core.List.{[], _∷_}
 use Prim.Native.Nat.{_<_}
 use borrow.Author.Needs.{needs}
-use borrow.Author.Tests.{ne-eqb}
 use denote.Ref.{now}
 use mir.Facts.{toZ-ofZ}
 use lib.IntN.{pos}
 use lib.ListN.{length}
-use Rattle.refusal.specs.Numbers.{numberOf, accepted}
-use Rattle.refusal.proofs.Distinct.{no-number-zero}
+use Rattle.refusal.specs.Numbers.{accepted}
+use Rattle.refusal.proofs.Distinct.{not-zero}
 use Rattle.nearest.specs.Taps.{nearestReply, nearestReplyOf, usualReach}
 use Rattle.nearest.proofs.NearestLaws.{nearest-is-least}
 use Rattle.programs.specs.Tapping.{nearLine}
@@ -62,9 +61,8 @@ returns-2 : tie.Need-returns-2
 unfolding nearLine
 returns-2 c =
     let e = c .before in
-    let r = e .enum-told .given .0 .0 in
     let f = e .before .before .before .fits in
-    rw (sym (replied (e .before .before)) ∙ ap nearestReplyOf (e .enum-told .given .1), ne-eqb (numberOf r) 0 (no-number-zero r))
+    rw (← (rw (e .enum-told .given .1) at (replied (e .before .before))), not-zero (e .enum-told .given .0 .0))
     (rw (toZ-ofZ (f .latitude), toZ-ofZ (f .longitude)) at (c .nothing-found-line .ensures))
 
 pub nearest-to-spec : {M : Type 1} → statement M

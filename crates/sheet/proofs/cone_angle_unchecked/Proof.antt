@@ -2,6 +2,7 @@
 use mathlib.Core.Path.{_≡_}
 use borrow.Author.Needs.{needs}
 use mir.Syntax.{w64}
+use mir.Val.{toZ}
 use mir.Facts.{toZ-ofZ}
 use Rattle.arith.proofs.Fits.{Range, shapes, fits, div-fits, plain, inside-of, within, via, nat-bits}
 use Rattle.trig.specs.Trig.{angleOf}
@@ -19,27 +20,19 @@ angle-unchecked-requires c κs = inside-of (search (within (c .pre .1), shapes) 
 angled : (c : tie.After-angle-unchecked) → c .angle-unchecked .result ≡ angleOf (c .before .args .a)
 angled c = rw (toZ-ofZ (c .before .fits .a)) at (c .angle-unchecked .ensures)
 
-abbrev angle-range : (c : tie.After-angle-unchecked) → Range (c .angle-unchecked .result)
-angle-range c = via (angled c) (within (radius-angle-size (c .before .args .a) (c .before .pre .1)))
+-- n and the angle
+abbrev factors : (c : tie.After-angle-unchecked) → Range (toZ w64 (c .before .args .n)) × Range (c .angle-unchecked .result)
+factors c = let s = c .before in (nat-bits w64 (s .pre .0), via (angled c) (within (radius-angle-size (s .args .a) (s .pre .1))))
 
 mul-result : tie.Need-mul-result
-mul-result c =
-    let n = nat-bits w64 (c .before .pre .0) in
-    let a = angle-range c in
-    fits (search shapes depth 9) tt
+mul-result c = let f = factors c in fits (search shapes depth 9) tt
 
 div-result : tie.Need-div-result
-div-result c =
-    let n = nat-bits w64 (c .before .pre .0) in
-    let a = angle-range c in
-    div-fits (search shapes depth 9) tt
+div-result c = let f = factors c in div-fits (search shapes depth 9) tt
 
 returns : tie.Need-returns
 unfolding coneAngleOf
-returns c =
-    let n = nat-bits w64 (c .before .pre .0) in
-    let a = angle-range c in
-    plain (search shapes depth 9) tt
+returns c = let f = factors c in plain (search shapes depth 9) tt
 
 pub cone-angle-unchecked-spec : {M : Type 1} → statement M
 cone-angle-unchecked-spec =

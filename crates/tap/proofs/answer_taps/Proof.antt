@@ -1,11 +1,11 @@
 -- `tap::answer_taps` is safe and ends. Assumes nothing.
 mod Lts
 mod Tie
-use mathlib.Core.Path.{_≡_, refl, sym, ap, _∙_}
+use mathlib.Core.Path.{_≡_, refl, ap}
 use native.Mathlib.Omega.{arith}
 use borrow.Author.Needs.{needs}
 use denote.Ref.{now}
-use Rattle.atlas_file.specs.Reading.{FileReply, acceptedFile, fileReplyOf, readReply}
+use Rattle.atlas_file.specs.Reading.{FileReply, acceptedFile, readReply}
 use Rattle.atlas.proofs.FilePlaces.{accepted-file, accepted-count}
 use Rattle.tap.proofs.answer_taps.Statement.{statement}
 use Rattle.tap.proofs.answer_taps.Proof.Tie as tie
@@ -29,7 +29,7 @@ answer-lines-requires : tie.Need-answer-lines-requires
 answer-lines-requires c κs =
     let a = c .before .before in
     let r = a .before .before .before in
-    let is : acceptedFile (a .answer .given .0 .0) (a .answer .given .0 .1 .0) ≡ readReply (now (r .before .before .before .before .args .file)) _ = ap fileReplyOf (sym (a .answer .given .1)) ∙ r .read .ensures .0 in
+    let is : acceptedFile (a .answer .given .0 .0) (a .answer .given .0 .1 .0) ≡ readReply (now (r .before .before .before .before .args .file)) _ = rw (a .answer .given .1) at (r .read .ensures .0) in
     omega (arith, ap (λ (X : FileReply). X .count) is, accepted-count (accepted-file is refl) .1, r .read .kept .1 .0)
 
 enum-known-answer-2 : tie.Need-enum-known-answer-2

@@ -1,5 +1,4 @@
 -- `trig::cosine` meets its contract. Assumes nothing.
-use mathlib.Core.Path.{sym, _∙_}
 use borrow.Author.Needs.{needs}
 use mir.Syntax.{w64}
 use mir.Facts.{toZ-ofZ}
@@ -13,7 +12,7 @@ size-up-to-requires : tie.Need-size-up-to-requires
 size-up-to-requires c κs = search needs
 
 cosine-unchecked-requires : tie.Need-cosine-unchecked-requires
-cosine-unchecked-requires c κs = within-true (sym (c .before .size-up-to .ensures) ∙ c .if1 .taken)
+cosine-unchecked-requires c κs = within-true (cc)
 
 returns : tie.Need-returns
 returns c =

@@ -18,30 +18,21 @@ series-requires c κs = (inl refl, rw (toZ-ofZ (c .before .fits .z), c .before .
 summed : (c : tie.After-series) → c .series .result ≡ seriesOf sineRow (squareOf (c .before .before .args .t))
 summed c = c .series .ensures ∙ rw (toZ-ofZ (c .before .before .fits .z), c .before .before .pre .1)
 
--- the row's value
-abbrev p-range : (c : tie.After-series) → Range (c .series .result)
-p-range c =
+-- t and the row's value
+abbrev factors : (c : tie.After-series) → Range (c .before .before .args .t) × Range (c .series .result)
+factors c =
     let s = c .before .before in
-    via (summed c) (within (series-size sineRow 0 (squareOf (s .args .t)) (inl refl) (square-size (s .args .t) (s .pre .0))))
+    (within (s .pre .0), via (summed c) (within (series-size sineRow 0 (squareOf (s .args .t)) (inl refl) (square-size (s .args .t) (s .pre .0)))))
 
 mul-result : tie.Need-mul-result
-mul-result c =
-    let t = within (c .before .before .pre .0) in
-    let p = p-range c in
-    fits (search shapes depth 9) tt
+mul-result c = let f = factors c in fits (search shapes depth 9) tt
 
 div-result : tie.Need-div-result
-div-result c =
-    let t = within (c .before .before .pre .0) in
-    let p = p-range c in
-    div-fits (search shapes depth 9) tt
+div-result c = let f = factors c in div-fits (search shapes depth 9) tt
 
 returns : tie.Need-returns
 unfolding sineOf
-returns c =
-    let t = within (c .before .before .pre .0) in
-    let p = p-range c in
-    plain (search shapes depth 9) tt
+returns c = let f = factors c in plain (search shapes depth 9) tt
 
 pub sine-by-square-spec : {M : Type 1} → statement M
 sine-by-square-spec = tie.close (tie.spec array-copy-out-row series-requires mul-result div-result returns)

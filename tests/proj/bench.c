@@ -1,0 +1,474 @@
+/* How long the engine takes, beside PROJ on the same positions. Answers are checked before anything is timed: wrong ones fail the run, a target
+ * that is missed does not. Each time is the median of rounds in which all that is measured takes its turn. */
+#define _POSIX_C_SOURCE 199309L
+
+#include "common.h"
+
+#include <string.h>
+#include <time.h>
+
+#define ROUNDS 11
+#define POSITIONS 100000
+#define PLACES 1000
+#define TAPS 1000
+#define READINGS 20
+
+/* The engine's functions for tests: crates/test_interface. */
+typedef struct {
+    uint32_t id;
+    int32_t latitude, longitude, x, y;
+    uint8_t name[ATLAS_NAME_SIZE];
+} Place;
+
+uint64_t melgoweth_test_check(int32_t first_parallel, int32_t second_parallel, int32_t origin_latitude, int32_t central_meridian,
+                              int32_t south_edge, int32_t north_edge, uint32_t half_width, uint32_t cone_constant, int32_t radius_constant);
+uint64_t melgoweth_test_sine(int64_t t, int64_t *out);
+uint64_t melgoweth_test_cosine(int64_t t, int64_t *out);
+uint64_t melgoweth_test_root(int64_t q, int64_t *out);
+uint64_t melgoweth_test_read(const uint8_t *bytes, size_t length, Place *table, size_t room, uint64_t numbers[2], int64_t sheet[9]);
+uint64_t melgoweth_test_nearest(const Place *table, size_t count, int64_t x, int64_t y, int64_t reach, uint64_t *out);
+
+/* ---- What is measured upon */
+
+static Sheet sheet;
+static uint8_t record[ATLAS_SHEET_SIZE];
+static PJ *projection;
+
+static int64_t positions[2 * POSITIONS], answers[3 * POSITIONS], points[2 * POSITIONS];
+static PJ_COORD radians[POSITIONS], plane[POSITIONS], coordinates[POSITIONS];
+
+static Place places[PLACES], table[PLACES];
+static uint8_t file[ATLAS_SHEET_SIZE + 37 * PLACES + 5];
+static int64_t taps[2 * TAPS];
+
+static int64_t checksum;
+
+static void fail(const char *what)
+{
+    fprintf(stderr, "wrong: %s\n", what);
+    exit(1);
+}
+
+static void make_sheet(void)
+{
+    sheet = with_constants((Sheet){.first_parallel = 29500000, .second_parallel = 45500000, .origin_latitude = 37500000,
+                                   .central_meridian = -96000000, .south_edge = 20000000, .north_edge = 60000000, .half_width = 40000000});
+    put_sheet(record, &sheet);
+    projection = eqdc(&sheet);
+}
+
+/* Not at the edges, so that the map point of each position is on the sheet too. */
+static void make_positions(void)
+{
+    int64_t reach = (int64_t)sheet.half_width - 10;
+    for (int i = 0; i < POSITIONS; i++) {
+        int64_t latitude = between(sheet.south_edge + 10, sheet.north_edge - 10);
+        int64_t longitude = shifted(sheet.central_meridian + between(-reach, reach));
+        positions[2 * i] = latitude;
+        positions[2 * i + 1] = longitude;
+        radians[i] = radians_of(latitude, longitude);
+        if (atlas_forward(record, sizeof record, latitude, longitude, &points[2 * i], &points[2 * i + 1]) != 0)
+            fail("forward refuses a position on the sheet");
+        plane[i] = proj_coord((double)points[2 * i], (double)points[2 * i + 1], 0, 0);
+    }
+}
+
+static void make_file(void)
+{
+    uint8_t *at = file + ATLAS_SHEET_SIZE;
+    memcpy(file, record, sizeof record);
+    for (int i = 0; i < PLACES; i++) {
+        Place *place = &places[i];
+        *place = (Place){(uint32_t)i + 1, (int32_t)positions[2 * i], (int32_t)positions[2 * i + 1], (int32_t)points[2 * i],
+                         (int32_t)points[2 * i + 1], ""};
+        snprintf((char *)place->name, sizeof place->name, "Place %d", i + 1);
+        *at++ = 2;
+        at = put_number(at, place->id);
+        at = put_number(at, (uint32_t)place->latitude);
+        at = put_number(at, (uint32_t)place->longitude);
+        at = put_number(at, (uint32_t)place->x);
+        at = put_number(at, (uint32_t)place->y);
+        memcpy(at, place->name, sizeof place->name);
+        at += sizeof place->name;
+    }
+    *at++ = 3;
+    put_number(at, PLACES);
+}
+
+/* Within the usual reach of a place, all but every fourth, which is anywhere. */
+static void make_taps(void)
+{
+    for (int i = 0; i < TAPS; i++) {
+        const Place *place = &places[between(0, PLACES - 1)];
+        int64_t off = i % 4 == 0 ? 10000000 : 30000;
+        taps[2 * i] = place->x + between(-off, off);
+        taps[2 * i + 1] = place->y + between(-off, off);
+    }
+}
+
+/* ---- The answers */
+
+/* Document 01's steps from globe to map in C, for a sheet that is checked: what a C compiler makes of the same work. */
+static int64_t series(int64_t z, const int64_t factors[6])
+{
+    int64_t p = ONE;
+    for (int k = 5; k >= 0; k--)
+        p = ONE - z * p / (ONE * factors[k]);
+    return p;
+}
+
+static void steps_in_c(int64_t latitude, int64_t longitude, int64_t answer[3])
+{
+    static const int64_t sine_row[6] = {6, 20, 42, 72, 110, 156}, cosine_row[6] = {2, 12, 30, 56, 90, 132};
+    int64_t d = shifted(longitude - sheet.central_meridian), w = sheet.half_width, g = sheet.radius_constant;
+    answer[1] = answer[2] = 0;
+    if (llabs(latitude) > 90000000 || llabs(longitude) > 180000000) {
+        answer[0] = 12;
+    } else if (latitude < sheet.south_edge || latitude > sheet.north_edge || d < -w || d > w) {
+        answer[0] = 11;
+    } else {
+        int64_t t = sheet.cone_constant * (d * 20122276272 / ONE) / ONE, z = t * t / ONE, r = g - latitude;
+        answer[0] = 0;
+        answer[1] = r * (t * series(z, sine_row) / ONE) / ONE;
+        answer[2] = g - sheet.origin_latitude - r * series(z, cosine_row) / ONE;
+    }
+}
+
+static void check_forward(void)
+{
+    if (atlas_forward_each(record, sizeof record, positions, 2 * POSITIONS, answers, 3 * POSITIONS) != 0)
+        fail("forward_each refuses");
+    for (int i = 0; i < POSITIONS; i++) {
+        PJ_COORD proj = proj_trans(projection, PJ_FWD, radians[i]);
+        int64_t answer[3];
+        if (answers[3 * i] != 0 || answers[3 * i + 1] != points[2 * i] || answers[3 * i + 2] != points[2 * i + 1])
+            fail("forward_each and forward differ");
+        steps_in_c(positions[2 * i], positions[2 * i + 1], answer);
+        if (answer[0] != 0 || answer[1] != points[2 * i] || answer[2] != points[2 * i + 1])
+            fail("forward is not what the steps in C give");
+        if (!(fabs((double)points[2 * i] - proj.xy.x) < 4 && fabs((double)points[2 * i + 1] - proj.xy.y) < 4))
+            fail("forward is 4 units from PROJ's");
+    }
+}
+
+static void check_inverse(void)
+{
+    for (int i = 0; i < POSITIONS; i++) {
+        int64_t latitude, longitude;
+        if (atlas_inverse(record, sizeof record, points[2 * i], points[2 * i + 1], &latitude, &longitude) != 0)
+            fail("inverse refuses a point on the sheet");
+        PJ_COORD proj = proj_trans(projection, PJ_INV, plane[i]);
+        if (!(fabs((double)(latitude - proj.lp.phi / UNIT)) < 1 && fabs((double)(longitude - proj.lp.lam / UNIT)) < 2.5))
+            fail("inverse is a unit of latitude from PROJ's, or 2.5 of longitude");
+    }
+}
+
+/* The index of the nearest place within the usual reach by trying all, or PLACES. Ids rise, so that the first of equals is right. */
+static size_t nearest_of_all(int64_t x, int64_t y)
+{
+    int64_t least = 50000LL * 50000 + 1;
+    size_t nearest = PLACES;
+    for (size_t i = 0; i < PLACES; i++) {
+        int64_t dx = places[i].x - x, dy = places[i].y - y, squared = dx * dx + dy * dy;
+        if (squared < least) {
+            least = squared;
+            nearest = i;
+        }
+    }
+    return nearest;
+}
+
+static void check_file_and_taps(void)
+{
+    uint64_t numbers[2], position;
+    int64_t sheet_read[9];
+    int found = 0;
+    if (atlas_check(file, sizeof file) != 0)
+        fail("the file is refused");
+    if (melgoweth_test_read(file, sizeof file, table, PLACES, numbers, sheet_read) != 0 || numbers[1] != PLACES ||
+        memcmp(table, places, sizeof places) != 0)
+        fail("the places read are not those of the file");
+    for (int i = 0; i < TAPS; i++) {
+        int64_t x = taps[2 * i], y = taps[2 * i + 1];
+        size_t right = nearest_of_all(x, y), index;
+        uint64_t refusal = melgoweth_test_nearest(table, PLACES, x, y, atlas_usual_reach(), &position);
+        if (right == PLACES ? refusal != 13 : refusal != 0 || position != right)
+            fail("the nearest place of the table");
+        refusal = atlas_nearest(file, sizeof file, x, y, atlas_usual_reach(), &index);
+        if (right == PLACES ? refusal != 13 : refusal != 0 || index != right)
+            fail("the nearest place of the file");
+        found += right < PLACES;
+    }
+    if (found < TAPS / 2 || found == TAPS)
+        fail("taps are to find a place often, but not always");
+}
+
+/* ---- What is timed */
+
+static void run_forward_each(void)
+{
+    checksum += atlas_forward_each(record, sizeof record, positions, 2 * POSITIONS, answers, 3 * POSITIONS);
+    checksum += answers[3 * POSITIONS - 1];
+}
+
+static void run_forward(void)
+{
+    int64_t x, y;
+    for (int i = 0; i < POSITIONS; i++) {
+        checksum += atlas_forward(record, sizeof record, positions[2 * i], positions[2 * i + 1], &x, &y);
+        checksum += x + y;
+    }
+}
+
+static void run_inverse(void)
+{
+    int64_t latitude, longitude;
+    for (int i = 0; i < POSITIONS; i++) {
+        checksum += atlas_inverse(record, sizeof record, points[2 * i], points[2 * i + 1], &latitude, &longitude);
+        checksum += latitude + longitude;
+    }
+}
+
+static void run_steps_in_c(void)
+{
+    for (int i = 0; i < POSITIONS; i++)
+        steps_in_c(positions[2 * i], positions[2 * i + 1], &answers[3 * i]);
+    checksum += answers[3 * POSITIONS - 1];
+}
+
+/* The engine's whole work by PROJ: from whole units to whole units. */
+static void run_proj_from_units(void)
+{
+    const double unit = (double)UNIT;
+    for (int i = 0; i < POSITIONS; i++) {
+        PJ_COORD position = proj_coord((double)positions[2 * i + 1] * unit, (double)positions[2 * i] * unit, 0, 0);
+        PJ_COORD point = proj_trans(projection, PJ_FWD, position);
+        answers[3 * i + 1] = lrint(point.xy.x);
+        answers[3 * i + 2] = lrint(point.xy.y);
+    }
+    checksum += answers[3 * POSITIONS - 1];
+}
+
+/* PROJ writes its answers over its input. */
+static void trans(PJ_DIRECTION direction)
+{
+    for (int i = 0; i < POSITIONS; i++)
+        coordinates[i] = proj_trans(projection, direction, coordinates[i]);
+    checksum += (int64_t)coordinates[POSITIONS - 1].xy.x;
+}
+
+static void trans_array(PJ_DIRECTION direction)
+{
+    checksum += proj_trans_array(projection, direction, POSITIONS, coordinates);
+    checksum += (int64_t)coordinates[POSITIONS - 1].xy.x;
+}
+
+static void trans_generic(PJ_DIRECTION direction)
+{
+    checksum += (int64_t)proj_trans_generic(projection, direction, &coordinates[0].xy.x, sizeof(PJ_COORD), POSITIONS, &coordinates[0].xy.y,
+                                            sizeof(PJ_COORD), POSITIONS, NULL, 0, 0, NULL, 0, 0);
+    checksum += (int64_t)coordinates[POSITIONS - 1].xy.x;
+}
+
+static void run_check(void)
+{
+    for (int i = 0; i < READINGS; i++)
+        checksum += atlas_check(file, sizeof file);
+}
+
+static void run_read(void)
+{
+    uint64_t numbers[2];
+    int64_t sheet_read[9];
+    for (int i = 0; i < READINGS; i++) {
+        checksum += (int64_t)melgoweth_test_read(file, sizeof file, table, PLACES, numbers, sheet_read);
+        checksum += (int64_t)numbers[1];
+    }
+}
+
+static void run_nearest_in_table(void)
+{
+    uint64_t position;
+    for (int i = 0; i < TAPS; i++) {
+        checksum += (int64_t)melgoweth_test_nearest(table, PLACES, taps[2 * i], taps[2 * i + 1], 50000, &position);
+        checksum += (int64_t)position;
+    }
+}
+
+static void run_nearest_in_file(void)
+{
+    size_t index = 0;
+    for (int i = 0; i < READINGS; i++) {
+        checksum += atlas_nearest(file, sizeof file, taps[2 * i], taps[2 * i + 1], 50000, &index);
+        checksum += (int64_t)index;
+    }
+}
+
+static void run_sheet_check(void)
+{
+    for (int i = 0; i < POSITIONS; i++)
+        checksum += (int64_t)melgoweth_test_check(sheet.first_parallel, sheet.second_parallel, sheet.origin_latitude, sheet.central_meridian,
+                                                  sheet.south_edge, sheet.north_edge, sheet.half_width, sheet.cone_constant,
+                                                  sheet.radius_constant);
+}
+
+static void run_root(void)
+{
+    int64_t root;
+    for (int i = 0; i < POSITIONS; i++) {
+        int64_t x = points[2 * i], v = sheet.radius_constant - sheet.origin_latitude - points[2 * i + 1];
+        checksum += (int64_t)melgoweth_test_root(x * x + v * v, &root);
+        checksum += root;
+    }
+}
+
+static void run_sine_and_cosine(void)
+{
+    int64_t sine, cosine;
+    for (int i = 0; i < POSITIONS; i++) {
+        int64_t t = 16 * points[2 * i]; /* up to about half a radian */
+        checksum += (int64_t)melgoweth_test_sine(t, &sine);
+        checksum += (int64_t)melgoweth_test_cosine(t, &cosine);
+        checksum += sine + cosine;
+    }
+}
+
+/* ---- The measurements */
+
+/* Either the engine runs or PROJ does, in a direction. */
+typedef struct {
+    const char *what;
+    int calls;
+    void (*engine)(void);
+    void (*proj)(PJ_DIRECTION);
+    PJ_DIRECTION direction;
+    double times[ROUNDS]; /* ns per call */
+} Measure;
+
+enum {
+    EACH,
+    ONE_BY_ONE,
+    STEPS_IN_C,
+    PROJ_FORWARD, /* three ways; so PROJ_INVERSE */
+    PROJ_FROM_UNITS = PROJ_FORWARD + 3,
+    INVERSE,
+    PROJ_INVERSE,
+    CHECK = PROJ_INVERSE + 3,
+    READ,
+    TAP,
+    TAP_FILE,
+    SHEET_CHECK,
+    ROOT,
+    PAIR,
+    MEASURES
+};
+
+static Measure measures[MEASURES] = {
+    [EACH] = {.what = "forward: atlas_forward_each", .calls = POSITIONS, .engine = run_forward_each},
+    [ONE_BY_ONE] = {.what = "forward: atlas_forward", .calls = POSITIONS, .engine = run_forward},
+    [STEPS_IN_C] = {.what = "forward: the same steps in C, gcc", .calls = POSITIONS, .engine = run_steps_in_c},
+    [PROJ_FORWARD] = {.what = "forward: PROJ, proj_trans", .calls = POSITIONS, .proj = trans, .direction = PJ_FWD},
+    {.what = "forward: PROJ, proj_trans_array", .calls = POSITIONS, .proj = trans_array, .direction = PJ_FWD},
+    {.what = "forward: PROJ, proj_trans_generic", .calls = POSITIONS, .proj = trans_generic, .direction = PJ_FWD},
+    [PROJ_FROM_UNITS] = {.what = "forward: PROJ, from units to whole units", .calls = POSITIONS, .engine = run_proj_from_units},
+    [INVERSE] = {.what = "inverse: atlas_inverse", .calls = POSITIONS, .engine = run_inverse},
+    [PROJ_INVERSE] = {.what = "inverse: PROJ, proj_trans", .calls = POSITIONS, .proj = trans, .direction = PJ_INV},
+    {.what = "inverse: PROJ, proj_trans_array", .calls = POSITIONS, .proj = trans_array, .direction = PJ_INV},
+    {.what = "inverse: PROJ, proj_trans_generic", .calls = POSITIONS, .proj = trans_generic, .direction = PJ_INV},
+    [CHECK] = {.what = "file of 1,000 places: atlas_check", .calls = READINGS, .engine = run_check},
+    [READ] = {.what = "file of 1,000 places: into a table", .calls = READINGS, .engine = run_read},
+    [TAP] = {.what = "tap: in a table of 1,000 places", .calls = TAPS, .engine = run_nearest_in_table},
+    [TAP_FILE] = {.what = "tap: atlas_nearest, which reads the file", .calls = READINGS, .engine = run_nearest_in_file},
+    [SHEET_CHECK] = {.what = "part: sheet check", .calls = POSITIONS, .engine = run_sheet_check},
+    [ROOT] = {.what = "part: root", .calls = POSITIONS, .engine = run_root},
+    [PAIR] = {.what = "part: a sine and a cosine", .calls = POSITIONS, .engine = run_sine_and_cosine},
+};
+
+static double now(void)
+{
+    struct timespec time;
+    clock_gettime(CLOCK_MONOTONIC, &time);
+    return (double)time.tv_sec * 1e9 + (double)time.tv_nsec;
+}
+
+static double time_once(const Measure *m)
+{
+    if (m->proj != NULL)
+        memcpy(coordinates, m->direction == PJ_FWD ? radians : plane, sizeof coordinates);
+    double start = now();
+    if (m->proj != NULL)
+        m->proj(m->direction);
+    else
+        m->engine();
+    return (now() - start) / m->calls;
+}
+
+static int by_size(const void *a, const void *b)
+{
+    double x = *(const double *)a, y = *(const double *)b;
+    return (x > y) - (x < y);
+}
+
+static double median(int measure)
+{
+    return measures[measure].times[ROUNDS / 2];
+}
+
+static double fastest_of_three(int measure)
+{
+    return fmin(median(measure), fmin(median(measure + 1), median(measure + 2)));
+}
+
+static void print_target(const char *what, double is, const char *unit, const char *target, double limit)
+{
+    printf("%-44s %8.2f %-3s %-18s %s\n", what, is, unit, target, is < limit ? "met" : "not met");
+}
+
+int main(void)
+{
+    make_sheet();
+    make_positions();
+    make_file();
+    make_taps();
+    check_forward();
+    check_inverse();
+    check_file_and_taps();
+
+    for (int m = 0; m < MEASURES; m++)
+        time_once(&measures[m]);
+    for (int round = 0; round < ROUNDS; round++)
+        for (int m = 0; m < MEASURES; m++)
+            measures[m].times[round] = time_once(&measures[m]);
+
+    printf("%-10s %s\n\n", "PROJ", proj_info().version);
+    printf("%-44s %12s %12s %12s   of %d rounds\n", "ns per call", "median", "smallest", "largest", ROUNDS);
+    for (int m = 0; m < MEASURES; m++) {
+        qsort(measures[m].times, ROUNDS, sizeof(double), by_size);
+        printf("%-44s %12.1f %12.1f %12.1f\n", measures[m].what, median(m), measures[m].times[0], measures[m].times[ROUNDS - 1]);
+    }
+
+    double proj_forward = fastest_of_three(PROJ_FORWARD), proj_inverse = fastest_of_three(PROJ_INVERSE);
+    printf("\nBeside PROJ's fastest\n");
+    printf("%-44s %8.2f\n", "forward, atlas_forward_each / PROJ", median(EACH) / proj_forward);
+    printf("%-44s %8.2f\n", "forward, atlas_forward_each / PROJ from units", median(EACH) / median(PROJ_FROM_UNITS));
+    printf("%-44s %8.2f\n", "forward, the same steps in C / PROJ", median(STEPS_IN_C) / proj_forward);
+    printf("%-44s %8.2f\n", "forward, atlas_forward / PROJ", median(ONE_BY_ONE) / proj_forward);
+    printf("%-44s %8.2f\n", "inverse, atlas_inverse / PROJ", median(INVERSE) / proj_inverse);
+
+    int steps = 0;
+    while (1LL << steps < 2LL * sheet.half_width)
+        steps++;
+    printf("\nWhere inverse's time goes, ns\n");
+    printf("%-44s %8.1f\n", "sheet check", median(SHEET_CHECK));
+    printf("%-44s %8.1f\n", "root", median(ROOT));
+    printf("%-44s %8.1f, %.1f for each of up to %d halvings\n", "the rest", median(INVERSE) - median(SHEET_CHECK) - median(ROOT),
+           (median(INVERSE) - median(SHEET_CHECK) - median(ROOT)) / steps, steps);
+
+    printf("\nTargets\n");
+    print_target("forward / PROJ, sheet checked once", median(EACH) / proj_forward, "", "at most a third", 1.0 / 3);
+    print_target("reading 1,000 places: atlas_check", median(CHECK) / 1e6, "ms", "under 1 ms", 1);
+    print_target("reading 1,000 places: into a table", median(READ) / 1e6, "ms", "under 1 ms", 1);
+    print_target("a tap: in a table of 1,000 places", median(TAP) / 1e3, "us", "under 5 us", 5);
+    printf("\nchecksum %" PRId64 "\n", checksum);
+    return 0;
+}
