@@ -1,20 +1,11 @@
 -- Two answers of a lookup never share a reply. Assumes nothing.
-use mathlib.Core.Bool.{false}
 use mathlib.Core.Path.{_≡_, refl, sym, ap}
-use borrow.Author.Tests.{ne-eqb}
-use lib.Dec.{eqb}
-use Rattle.refusal.specs.declared.Refusal.{Refusal}
-use Rattle.refusal.specs.Numbers.{numberOf}
 use Rattle.refusal.proofs.Distinct.{distinct-numbers, no-number-zero}
 use Rattle.place.specs.declared.Place.{Place}
 use Rattle.lookup.specs.declared.Lookup.{Lookup}
 use Rattle.lookup.specs.declared.Lookup.the-variants as lookup
 use Rattle.lookup.specs.Lookups.{LookupReply, replyWith}
 use Rattle.lookup.specs.Laws.{DistinctLookupReplies}
-
--- a refusal's number is not 0, by the test of the definitions
-pub not-zero : (why : Refusal) → eqb (numberOf why) 0 ≡ false
-not-zero why = ne-eqb (numberOf why) 0 (no-number-zero why)
 
 number-of : {p q : LookupReply} → p ≡ q → p .number ≡ q .number
 number-of = ap (λ (x : LookupReply). x .number)

@@ -12,7 +12,7 @@ use Rattle.records.specs.Laws.{PlaceKind, PlaceBack, PlaceForth, PlaceLe
 use Rattle.little_endian.proofs.NumberLaws.{u32-back, i32-back, u32-below, i32-below, u32-then, i32-then}
 use Rattle.records.proofs.KindBytes.{row, whole-record}
 
--- two of them are the same where their fields are
+-- two places are the same where their fields are
 pub place-is : {s t : Place} →
     s .«id» ≡ t .«id» →
     s .«latitude» ≡ t .«latitude» →

@@ -12,7 +12,7 @@ use Rattle.records.specs.Laws.{SheetKind, SheetBack, SheetForth, SheetAs
 use Rattle.little_endian.proofs.NumberLaws.{u32-back, i32-back, u32-below, i32-below, u32-then, i32-then}
 use Rattle.records.proofs.KindBytes.{row, whole-record}
 
--- two of them are the same where their fields are
+-- two sheets are the same where their fields are
 pub sheet-is : {s t : Sheet} →
     s .«first_parallel» ≡ t .«first_parallel» →
     s .«second_parallel» ≡ t .«second_parallel» →

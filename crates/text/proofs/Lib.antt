@@ -1,4 +1,4 @@
--- What holds of text.
+-- Digits and the lines made of them, numbers and coordinates that are read, and what holds of the line of a tap.
 pub mod Digits
 pub mod Spelled
 pub mod Building

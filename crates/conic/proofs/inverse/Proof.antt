@@ -1,9 +1,10 @@
 -- `conic::inverse` meets its contract. Assumes nothing.
+use mathlib.Core.Path.{ap, sym, _∙_}
 use mathlib.Core.List.{[]}
 use borrow.Author.Needs.{needs}
 use mir.Facts.{toZ-ofZ}
 use Rattle.refusal.proofs.InOrder.{refused-first}
-use Rattle.sheet.specs.Sheets.{sheetRules}
+use Rattle.sheet.specs.Sheets.{sheetRules, replyOf}
 use Rattle.sheet.proofs.Answers.{good-passes}
 use Rattle.conic.specs.MapToGlobe.{pointRules}
 use Rattle.conic.proofs.inverse.Statement.{statement}
@@ -16,7 +17,9 @@ enum-told : tie.Need-enum-told
 enum-told c = search needs
 
 edge-values-requires : tie.Need-edge-values-requires
-edge-values-requires c κs = good-passes (c .before .before .before .args .sheet) (cc)
+edge-values-requires c κs =
+    let k = c .before .before in
+    good-passes (k .before .args .sheet) (sym (ap replyOf (c .enum-told .given .1)) ∙ k .check .ensures)
 
 inverse-with-edges-requires : tie.Need-inverse-with-edges-requires
 inverse-with-edges-requires c κs = (edge-values-requires (c .before) κs, c .edge-values .ensures)
@@ -25,14 +28,16 @@ enum-known-verdict : tie.Need-enum-known-verdict
 enum-known-verdict c = search needs
 
 returns : tie.Need-returns
-returns c = let f = c .before .before .before .before .before .fits in cc (toZ-ofZ (f .x), toZ-ofZ (f .y))
+returns c =
+    let s = c .before .before .before .before .before in
+    rw (toZ-ofZ (s .fits .x), toZ-ofZ (s .fits .y)) at (c .inverse-with-edges .ensures)
 
 returns-2 : tie.Need-returns-2
 returns-2 c =
     let k = c .before .before .before in
     let s = k .before .args in
     let v = c .before .verdict .given in
-    refused-first 0 2 (sheetRules (s .sheet)) (pointRules (s .sheet) (s .x) (s .y)) [] _ (v .0 .0) (rw (v .1) at (k .check .ensures))
+    refused-first 0 2 (sheetRules (s .sheet)) (pointRules (s .sheet) (s .x) (s .y)) [] _ (v .0 .0) (sym (ap replyOf (v .1)) ∙ k .check .ensures)
 
 pub inverse-spec : {M : Type 1} → statement M
 inverse-spec =

@@ -11,12 +11,12 @@ use mir.Facts.{toZ-ofZ}
 use lib.IntN.{pos}
 use lib.ListN.{take}
 use lib.Seq.{length-take-le, getD-take}
+use Rattle.refusal.proofs.Distinct.{not-zero}
 use Rattle.refusal.specs.Numbers.{accepted}
 use Rattle.place.specs.Places.{blankPlace}
 use Rattle.nearest.specs.Taps.{nearestReply, nearestReplyOf}
 use Rattle.nearest.proofs.NearestLaws.{nearest-is-least}
 use Rattle.lookup.specs.Lookups.{foundAnswer, refusedAnswer, nearestAmong}
-use Rattle.lookup.proofs.Answers.{not-zero}
 use Rattle.lookup.proofs.nearest_among.Statement.{statement}
 use Rattle.lookup.proofs.nearest_among.Proof.Tie as tie
 

@@ -9,11 +9,11 @@ use denote.Ref.{now}
 use mir.Facts.{toZ-ofZ}
 use lib.ListN.{length, take}
 use lib.Seq.{take-at}
+use Rattle.refusal.proofs.Distinct.{not-zero}
 use Rattle.atlas_file.specs.Steps.{mostPlaces}
 use Rattle.atlas_file.specs.Reading.{FileReply, acceptedFile, fileReplyOf, readReply, placesRead}
 use Rattle.atlas.proofs.FilePlaces.{accepted-file, accepted-count}
 use Rattle.lookup.specs.Lookups.{refusedAnswer, nearestPlaceReply}
-use Rattle.lookup.proofs.Answers.{not-zero}
 use Rattle.lookup.proofs.nearest_place.Statement.{statement}
 use Rattle.lookup.proofs.nearest_place.Proof.Tie as tie
 

@@ -6,11 +6,11 @@ use borrow.Author.Needs.{needs}
 use borrow.Author.Tests.{lt-ltb, le-ltb}
 use denote.Ref.{now}
 use lib.ListN.{length}
+use Rattle.refusal.proofs.Distinct.{not-zero}
 use Rattle.atlas_file.specs.Steps.{mostPlaces}
 use Rattle.atlas_file.specs.Reading.{FileReply, acceptedFile, fileReplyOf, readReply, placesRead}
 use Rattle.atlas.proofs.FilePlaces.{accepted-file, accepted-count}
 use Rattle.lookup.specs.Lookups.{foundAnswer, refusedAnswer, placeAmong, placeAtReply}
-use Rattle.lookup.proofs.Answers.{not-zero}
 use Rattle.lookup.proofs.place_at.Statement.{statement}
 use Rattle.lookup.proofs.place_at.Tie as tie
 

@@ -1,6 +1,8 @@
 -- `test_interface::melgoweth_test_forward` meets its contract. Assumes nothing.
+use mathlib.Core.Path.{_∙_}
 use borrow.Author.Needs.{needs}
 use mir.Facts.{toZ-ofZ}
+use Rattle.conic.specs.Conic.{forwardReply}
 use Rattle.test_interface.proofs.Bits.{passed}
 use Rattle.test_interface.proofs.melgoweth_test_forward.Statement.{statement}
 use Rattle.test_interface.proofs.melgoweth_test_forward.Tie as tie
@@ -17,7 +19,9 @@ store-point-requires c κs = search needs
 returns : tie.Need-returns
 returns c =
     let f = c .before .before .before .before .fits in
-    cc (passed (c .before .before .before .sheet-of .ensures) (f .f1) (f .f2) (f .f0) (f .m0) (f .fs) (f .fn-) (f .g), toZ-ofZ (f .latitude), toZ-ofZ (f .longitude))
+    c .store-point .ensures
+    ∙ c .before .before .forward .ensures
+    ∙ (λ i. forwardReply (passed (c .before .before .before .sheet-of .ensures) (f .f1) (f .f2) (f .f0) (f .m0) (f .fs) (f .fn-) (f .g) i) (toZ-ofZ (f .latitude) i) (toZ-ofZ (f .longitude) i))
 
 pub melgoweth-test-forward-spec : {M : Type 1} → statement M
 melgoweth-test-forward-spec =

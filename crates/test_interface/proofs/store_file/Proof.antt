@@ -22,10 +22,13 @@ number-requires : tie.Need-number-requires
 number-requires c κs = search needs
 
 returns : tie.Need-returns
-returns c = rw (c .before .before .before .before .answer .given .1) (cc)
+returns c = rw (c .before .before .before .before .answer .given .1, c .store-sheet .ensures)
 
 returns-2 : tie.Need-returns-2
-returns-2 c = rw (c .before .before .before .before .before .before .answer2 .given .1) (cc)
+returns-2 c =
+    let s = c .before in
+    let b = s .before .before in
+    rw (b .before .before .before .answer2 .given .1, c .number .ensures, s .store-sheet2 .ensures, b .blank .ensures)
 
 pub store-file-spec : {M : Type 1} → statement M
 store-file-spec =

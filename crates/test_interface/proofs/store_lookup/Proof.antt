@@ -16,10 +16,14 @@ number-requires : tie.Need-number-requires
 number-requires c κs = search needs
 
 returns : tie.Need-returns
-returns c = rw (c .before .before .found .given .1) (cc)
+returns c =
+    let p = c .before .before .before .before .store-place .ensures in
+    rw (c .before .before .found .given .1, p .0, p .1)
 
 returns-2 : tie.Need-returns-2
-returns-2 c = rw (c .before .before .before .found2 .given .1) (cc)
+returns-2 c =
+    let p = c .before .before .before .before .before .store-place .ensures in
+    rw (c .before .before .before .found2 .given .1, c .number .ensures, p .0, p .1)
 
 pub store-lookup-spec : {M : Type 1} → statement M
 store-lookup-spec =

@@ -46,16 +46,32 @@ number-requires : tie.Need-number-requires
 number-requires c κs = search needs
 
 returns : tie.Need-returns
-returns c = rw (c .before .before .before .before .found .given .1) (cc)
+returns c =
+    let s = c .before .before .before .before .before .before in
+    let p = s .before .before .before .store-place .ensures in
+    let n = s .store-state .ensures in
+    rw (c .before .before .before .before .found .given .1, c .store-sheet .ensures, p .0, p .1, n .0, n .1)
 
 returns-2 : tie.Need-returns-2
-returns-2 c = rw (c .before .before .before .before .enum-told .given .1) (cc)
+returns-2 c =
+    let s = c .before .before .before .before .before .before in
+    let p = s .before .before .before .store-place .ensures in
+    let n = s .store-state .ensures in
+    rw (c .before .before .before .before .enum-told .given .1, c .store-sheet2 .ensures, c .before .before .blank .ensures, p .0, p .1, n .0, n .1)
 
 returns-3 : tie.Need-returns-3
-returns-3 c = rw (c .before .before .before .before .before .found2 .given .1) (cc)
+returns-3 c =
+    let s = c .before .before .before .before .before .before .before in
+    let p = s .before .before .before .store-place .ensures in
+    let n = s .store-state .ensures in
+    rw (c .before .before .before .before .before .found2 .given .1, c .store-sheet3 .ensures, c .before .before .blank2 .ensures, p .0, p .1, n .0, n .1)
 
 returns-4 : tie.Need-returns-4
-returns-4 c = rw (c .before .before .before .before .before .before .found3 .given .1) (cc)
+returns-4 c =
+    let s = c .before .before .before .before .before .before .before .before in
+    let p = s .before .before .before .store-place .ensures in
+    let n = s .store-state .ensures in
+    rw (c .before .before .before .before .before .before .found3 .given .1, c .number .ensures, c .before .store-sheet4 .ensures, c .before .before .before .blank3 .ensures, p .0, p .1, n .0, n .1)
 
 pub store-step-spec : {M : Type 1} → statement M
 store-step-spec =

@@ -2,7 +2,7 @@
 use native.Mathlib.Omega.{arith}
 use borrow.Author.Needs.{needs}
 use Rattle.text.specs.Lines.{countLine}
-use Rattle.text.proofs.Rows.{holds, row-one, long-one, long-64}
+use Rattle.text.proofs.Rows.{holds, row-one, row-more, long-one, long-more, long-64}
 use Rattle.text.proofs.count_line.Statement.{statement}
 use Rattle.text.proofs.count_line.Tie as tie
 
@@ -25,7 +25,9 @@ returns : tie.Need-returns
 unfolding countLine
 returns c =
     let s = c .before .before .before .before .before in
-    holds (countLine (s .args .count)) (rw long-one (omega (arith, long-64 (s .fits .count)))) (rw row-one (cc))
+    let n = s .args .count in
+    holds (countLine n) (rw (long-more, long-one) (omega (arith, long-64 (s .fits .count))))
+    (rw (c .with-word .ensures, c .before .before .with-space .ensures, c .before .before .before .with-number .ensures, c .before .before .before .before .end .ensures, row-more, row-one))
 
 pub count-line-spec : {M : Type 1} → statement M
 count-line-spec =

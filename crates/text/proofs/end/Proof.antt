@@ -10,7 +10,7 @@ with-byte-requires : tie.Need-with-byte-requires
 with-byte-requires c κs = search needs
 
 returns : tie.Need-returns
-returns c = cc
+returns c = rw (c .with-byte .ensures, c .before .empty .ensures .1)
 
 pub end-spec : {M : Type 1} → statement M
 end-spec = tie.close (tie.spec empty-requires with-byte-requires returns)

@@ -48,7 +48,25 @@ unfolding fileRefusedLine
 returns c =
     let s = c .before .before .before .before .before .before .before .before .before .before .before in
     let r = s .args .refusal in
-    holds (fileRefusedLine (numberOf r) (s .args .offset)) (simp (long-more, long-one) (omega (arith, long-number r, long-64 (s .fits .offset)))) (simp (row-more, row-one) (cc))
+    let n = c .before .before .before in
+    let at = n .before .before .before in
+    let o = at .before .before .before in
+    holds (fileRefusedLine (numberOf r) (s .args .offset)) (rw (long-more, long-more, long-more, long-one) (omega (arith, long-number r, long-64 (s .fits .offset))))
+    (rw (
+      c .with-word2 .ensures,
+      c .before .before .with-space3 .ensures,
+      n .with-number2 .ensures,
+      n .before .number .ensures,
+      n .before .before .with-space2 .ensures,
+      at .with-word .ensures,
+      at .before .before .with-space .ensures,
+      o .with-number .ensures,
+      o .before .end .ensures,
+      row-more,
+      row-more,
+      row-more,
+      row-one,
+    ))
 
 pub file-refused-line-spec : {M : Type 1} → statement M
 file-refused-line-spec =

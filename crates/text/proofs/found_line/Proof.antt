@@ -22,8 +22,8 @@ returns c =
     let s = c .before .before .before in
     let a = s .args in
     let f = s .fits in
-    holds (foundLine (a .latitude) (a .longitude) (a .id)) (simp (long-more, long-one) (omega (arith, long-32 (f .id), long-signed-64 (f .latitude), long-signed-64 (f .longitude))))
-    (simp (row-more, row-one) (cc (toZ-ofZ (f .latitude), toZ-ofZ (f .longitude))))
+    holds (foundLine (a .latitude) (a .longitude) (a .id)) (rw (long-more, long-more, long-one) (omega (arith, long-32 (f .id), long-signed-64 (f .latitude), long-signed-64 (f .longitude))))
+    (rw (c .with-position .ensures, toZ-ofZ (f .latitude), toZ-ofZ (f .longitude), c .before .with-number .ensures, c .before .before .end .ensures, row-more, row-more, row-one))
 
 pub found-line-spec : {M : Type 1} → statement M
 found-line-spec =

@@ -3,7 +3,7 @@ use native.Mathlib.Omega.{arith}
 use borrow.Author.Needs.{needs}
 use mir.Facts.{toZ-ofZ}
 use Rattle.text.specs.Lines.{nothingFoundLine}
-use Rattle.text.proofs.Rows.{holds, row-one, row-more, long-more, long-signed-64}
+use Rattle.text.proofs.Rows.{holds, row-one, row-more, long-one, long-more, long-signed-64}
 use Rattle.text.proofs.nothing_found_line.Statement.{statement}
 use Rattle.text.proofs.nothing_found_line.Tie as tie
 
@@ -25,8 +25,8 @@ returns c =
     let s = c .before .before .before .before in
     let a = s .args in
     let f = s .fits in
-    holds (nothingFoundLine (a .latitude) (a .longitude)) (simp long-more (omega (arith, long-signed-64 (f .latitude), long-signed-64 (f .longitude))))
-    (simp (row-more, row-one) (cc (toZ-ofZ (f .latitude), toZ-ofZ (f .longitude))))
+    holds (nothingFoundLine (a .latitude) (a .longitude)) (rw (long-more, long-more, long-one) (omega (arith, long-signed-64 (f .latitude), long-signed-64 (f .longitude))))
+    (rw (c .with-position .ensures, toZ-ofZ (f .latitude), toZ-ofZ (f .longitude), c .before .with-word .ensures, c .before .before .before .end .ensures, row-more, row-more, row-one))
 
 pub nothing-found-line-spec : {M : Type 1} → statement M
 nothing-found-line-spec =

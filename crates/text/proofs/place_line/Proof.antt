@@ -51,7 +51,7 @@ returns c =
     let p = one .before .before .before .args .place in
     let t = typed {p = p} (one .before .struct-told .given) in
     holds (placeLine p)
-    (simp (long-more, long-one)
+    (rw (long-more, long-more, long-more, long-more, long-one)
     (omega (arith, long-32 (t .id), long-signed-32 (t .latitude), long-signed-32 (t .longitude), long-signed-32 (t .x), long-signed-32 (t .y))))
     (rw (
       c .with-number .ensures,
@@ -68,8 +68,12 @@ returns c =
       toZ-ofZ (t .longitude),
       toZ-ofZ (t .x),
       toZ-ofZ (t .y),
-    )
-    (simp (row-more, row-one)))
+      row-more,
+      row-more,
+      row-more,
+      row-more,
+      row-one,
+    ))
 
 pub place-line-spec : {M : Type 1} → statement M
 place-line-spec =

@@ -3,7 +3,7 @@ use native.Mathlib.Omega.{arith}
 use borrow.Author.Needs.{needs}
 use Rattle.refusal.specs.Numbers.{numberOf}
 use Rattle.text.specs.Lines.{refusedLine}
-use Rattle.text.proofs.Rows.{holds, row-one, long-one, long-number}
+use Rattle.text.proofs.Rows.{holds, row-one, row-more, long-one, long-more, long-number}
 use Rattle.text.proofs.refused_line.Statement.{statement}
 use Rattle.text.proofs.refused_line.Tie as tie
 
@@ -31,8 +31,10 @@ with-word-requires c κs = search needs
 returns : tie.Need-returns
 unfolding refusedLine
 returns c =
-    let r = c .before .before .before .before .before .before .args .refusal in
-    holds (refusedLine (numberOf r)) (rw long-one (omega (arith, long-number r))) (rw row-one (cc))
+    let s = c .before .before .before .before .before .before in
+    let r = s .args .refusal in
+    holds (refusedLine (numberOf r)) (rw (long-more, long-one) (omega (arith, long-number r)))
+    (rw (c .with-word .ensures, c .before .before .with-space .ensures, c .before .before .before .with-number .ensures, c .before .before .before .before .number .ensures, c .before .before .before .before .before .end .ensures, row-more, row-one))
 
 pub refused-line-spec : {M : Type 1} → statement M
 refused-line-spec =

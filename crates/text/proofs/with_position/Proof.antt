@@ -17,7 +17,9 @@ with-signed-requires-2 : tie.Need-with-signed-requires-2
 with-signed-requires-2 c κs = search needs
 
 returns : tie.Need-returns
-returns c = let f = c .before .before .before .before .fits in cc (toZ-ofZ (f .latitude), toZ-ofZ (f .longitude))
+returns c =
+    let f = c .before .before .before .before .fits in
+    rw (c .with-signed2 .ensures, c .before .with-space2 .ensures, c .before .before .with-signed .ensures, c .before .before .before .with-space .ensures, toZ-ofZ (f .latitude), toZ-ofZ (f .longitude))
 
 pub with-position-spec : {M : Type 1} → statement M
 with-position-spec =
