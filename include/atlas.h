@@ -10,6 +10,9 @@
  * its name says. What a call writes to must not overlap anything else that it is handed. Nothing is kept between calls, and nothing is
  * allocated; atlas_nearest has its table of 1,000 places, 36,000 bytes, on the stack.
  *
+ * Floating point. atlas_inverse and atlas_inverse_each guess by doubles and test the guess in whole numbers, so that no rounding mode changes an
+ * answer. They may set the flag 'inexact'; its trap is to be masked, as it is in a program that does not unmask it.
+ *
  * A file is an atlas file's bytes, whole. Each call reads and checks all of it, so that nothing comes out of a file that is refused.
  * A sheet is its record's bytes, kind byte and body, as atlas_sheet gives them.
  */
@@ -76,6 +79,11 @@ uint32_t atlas_forward_each(const uint8_t *sheet, size_t sheet_length, const int
  * atlas_forward; then 12 if a coordinate is beyond ATLAS_POINT_LIMIT in size; then 11 if the point is off the sheet. (The point that forward
  * gives of a position at the north, west or east edge may be off by a fraction that was dropped, and refused.) */
 uint32_t atlas_inverse(const uint8_t *sheet, size_t sheet_length, int64_t x, int64_t y, int64_t *latitude, int64_t *longitude);
+
+/* The same for many points on one sheet, which is checked once. `points` is x, y, x, y, ..; `answers` gets three numbers for each point: 0,
+ * latitude, longitude, or the refusal's number (12, 11), 0, 0; later ones are unchanged. Refusals of the whole: as atlas_forward_each, with `points` for `positions`. */
+uint32_t atlas_inverse_each(const uint8_t *sheet, size_t sheet_length, const int64_t *points, size_t points_length, int64_t *answers,
+                            size_t answers_length);
 
 #ifdef __cplusplus
 }

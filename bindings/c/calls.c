@@ -151,19 +151,30 @@ static void check_projection(void)
     EXPECT(atlas_inverse(file, 37, -49619000, 13295532, &latitude, &longitude) == 0 && latitude == 30000300);
 }
 
-static void check_forward_each(void)
+typedef uint32_t each_function(const uint8_t *, size_t, const int64_t *, size_t, int64_t *, size_t);
+
+/* Four pairs of numbers, of which the first and the third are answered, the second is off the sheet, and the fourth is out of range. */
+static void check_each(each_function *each, const int64_t *pairs, const int64_t *expected)
 {
-    const int64_t positions[] = {31000000, 10000000, 30000000, 70000001, 30000000, 70000000, 90000001, 5};
-    const int64_t expected[] = {0, 0, 1000000, 11, 0, 0, 0, 49619600, 13295532, 12, 0, 0, -13, -14};
     int64_t answers[] = {-1, -2, -3, -4, -5, -6, -7, -8, -9, -10, -11, -12, -13, -14}, untouched[14];
     memcpy(untouched, answers, sizeof answers);
-    EXPECT(atlas_forward_each(file, 37, positions, 7, answers, 14) == 12);
-    EXPECT(atlas_forward_each(file, 37, positions, 8, answers, 11) == 10);
-    EXPECT(atlas_forward_each(file, 36, positions, 8, answers, 14) == 1);
-    EXPECT(atlas_forward_each(file, 37, positions, 0, answers, 0) == 0);
+    EXPECT(each(file, 37, pairs, 7, answers, 14) == 12);
+    EXPECT(each(file, 37, pairs, 8, answers, 11) == 10);
+    EXPECT(each(file, 36, pairs, 8, answers, 14) == 1);
+    EXPECT(each(file, 37, pairs, 0, answers, 0) == 0);
     EXPECT(!memcmp(answers, untouched, sizeof answers));
-    EXPECT(atlas_forward_each(file, 37, positions, 8, answers, 14) == 0);
+    EXPECT(each(file, 37, pairs, 8, answers, 14) == 0);
     EXPECT(!memcmp(answers, expected, sizeof answers));
+}
+
+static void check_many(void)
+{
+    const int64_t positions[] = {31000000, 10000000, 30000000, 70000001, 30000000, 70000000, 90000001, 5};
+    const int64_t map[] = {0, 0, 1000000, 11, 0, 0, 0, 49619600, 13295532, 12, 0, 0, -13, -14};
+    const int64_t points[] = {0, 1000000, 49619601, 13295532, 49619600, 13295532, 5, -ATLAS_POINT_LIMIT - 1};
+    const int64_t globe[] = {0, 31000000, 10000000, 11, 0, 0, 0, 30000000, 69999999, 12, 0, 0, -13, -14};
+    check_each(atlas_forward_each, positions, map);
+    check_each(atlas_inverse_each, points, globe);
 }
 
 /* A sheet whose limits (4) or constants (5) are not good, by every function that takes one. */
@@ -176,6 +187,7 @@ static void check_sheet_refusals(void)
     EXPECT(atlas_forward(sheet, 37, 30000000, 70000000, &a, &b) == 4);
     EXPECT(atlas_inverse(sheet, 37, 0, 1000000, &a, &b) == 4);
     EXPECT(atlas_forward_each(sheet, 37, &a, 0, &b, 0) == 4);
+    EXPECT(atlas_inverse_each(sheet, 37, &a, 0, &b, 0) == 4);
     memcpy(sheet, file, sizeof sheet);
     sheet[29] = 32; /* the cone constant is 536,870,944 */
     EXPECT(atlas_forward(sheet, 37, 30000000, 70000000, &a, &b) == 5);
@@ -191,7 +203,7 @@ int main(void)
     check_place();
     check_nearest();
     check_projection();
-    check_forward_each();
+    check_many();
     check_sheet_refusals();
     printf("calls.c: %u checks, %u failed\n", checked, failed);
     return failed != 0;

@@ -1,5 +1,6 @@
-/* How long the engine takes, beside PROJ on the same positions. Answers are checked before anything is timed: wrong ones fail the run, a target
- * that is missed does not. Each time is the median of rounds in which all that is measured takes its turn. */
+/* How long the engine takes, beside PROJ on the same positions, and how often it evaluates sine and cosine for a map point. Answers are checked
+ * before anything is timed: wrong ones fail the run, a target that is missed does not. Each time is the median of rounds in which all that is
+ * measured takes its turn. */
 #define _POSIX_C_SOURCE 199309L
 
 #include "common.h"
@@ -25,6 +26,8 @@ uint64_t melgoweth_test_check(int32_t first_parallel, int32_t second_parallel, i
 uint64_t melgoweth_test_sine(int64_t t, int64_t *out);
 uint64_t melgoweth_test_cosine(int64_t t, int64_t *out);
 uint64_t melgoweth_test_root(int64_t q, int64_t *out);
+uint64_t melgoweth_test_offset(uint32_t n, int64_t x, int64_t v, uint32_t w, int64_t *out);
+int64_t melgoweth_test_guess_offset(uint32_t n, int32_t x, int32_t v);
 uint64_t melgoweth_test_read(const uint8_t *bytes, size_t length, Place *table, size_t room, uint64_t numbers[2], int64_t sheet[9]);
 uint64_t melgoweth_test_nearest(const Place *table, size_t count, int64_t x, int64_t y, int64_t reach, uint64_t *out);
 
@@ -108,7 +111,9 @@ static void make_taps(void)
 
 /* ---- The answers */
 
-/* Document 01's steps from globe to map in C, for a sheet that is checked: what a C compiler makes of the same work. */
+/* Document 01's steps in C: the factors, the last p, the angle on the cone of an offset. */
+static const int64_t sine_row[6] = {6, 20, 42, 72, 110, 156}, cosine_row[6] = {2, 12, 30, 56, 90, 132};
+
 static int64_t series(int64_t z, const int64_t factors[6])
 {
     int64_t p = ONE;
@@ -117,9 +122,14 @@ static int64_t series(int64_t z, const int64_t factors[6])
     return p;
 }
 
+static int64_t cone_angle(int64_t n, int64_t d)
+{
+    return n * (d * 20122276272 / ONE) / ONE;
+}
+
+/* From globe to map, for a sheet that is checked: what a C compiler makes of the same work. */
 static void steps_in_c(int64_t latitude, int64_t longitude, int64_t answer[3])
 {
-    static const int64_t sine_row[6] = {6, 20, 42, 72, 110, 156}, cosine_row[6] = {2, 12, 30, 56, 90, 132};
     int64_t d = shifted(longitude - sheet.central_meridian), w = sheet.half_width, g = sheet.radius_constant;
     answer[1] = answer[2] = 0;
     if (llabs(latitude) > 90000000 || llabs(longitude) > 180000000) {
@@ -127,7 +137,7 @@ static void steps_in_c(int64_t latitude, int64_t longitude, int64_t answer[3])
     } else if (latitude < sheet.south_edge || latitude > sheet.north_edge || d < -w || d > w) {
         answer[0] = 11;
     } else {
-        int64_t t = sheet.cone_constant * (d * 20122276272 / ONE) / ONE, z = t * t / ONE, r = g - latitude;
+        int64_t t = cone_angle(sheet.cone_constant, d), z = t * t / ONE, r = g - latitude;
         answer[0] = 0;
         answer[1] = r * (t * series(z, sine_row) / ONE) / ONE;
         answer[2] = g - sheet.origin_latitude - r * series(z, cosine_row) / ONE;
@@ -153,10 +163,14 @@ static void check_forward(void)
 
 static void check_inverse(void)
 {
+    if (atlas_inverse_each(record, sizeof record, points, 2 * POSITIONS, answers, 3 * POSITIONS) != 0)
+        fail("inverse_each refuses");
     for (int i = 0; i < POSITIONS; i++) {
         int64_t latitude, longitude;
         if (atlas_inverse(record, sizeof record, points[2 * i], points[2 * i + 1], &latitude, &longitude) != 0)
             fail("inverse refuses a point on the sheet");
+        if (answers[3 * i] != 0 || answers[3 * i + 1] != latitude || answers[3 * i + 2] != longitude)
+            fail("inverse_each and inverse differ");
         PJ_COORD proj = proj_trans(projection, PJ_INV, plane[i]);
         if (!(fabs((double)(latitude - proj.lp.phi / UNIT)) < 1 && fabs((double)(longitude - proj.lp.lam / UNIT)) < 2.5))
             fail("inverse is a unit of latitude from PROJ's, or 2.5 of longitude");
@@ -203,6 +217,110 @@ static void check_file_and_taps(void)
         fail("taps are to find a place often, but not always");
 }
 
+/* ---- How often sine and cosine are evaluated for the offset of a map point */
+
+typedef struct {
+    int64_t points, evaluations;
+    int64_t most;   /* evaluations for one point */
+    int64_t halved; /* points for which the guess did not settle the offset */
+} Count;
+
+static Count on_this_sheet, on_any_cone, on_eighth, on_quarter, on_one;
+
+/* x times cosine(d) less v times sine(d): one evaluation of both. */
+static int64_t east_of(int64_t n, int64_t x, int64_t v, int64_t d)
+{
+    int64_t t = cone_angle(n, d), z = t * t / ONE;
+    return x * series(z, cosine_row) - v * (t * series(z, sine_row) / ONE);
+}
+
+static int64_t least_rise(int64_t n, int64_t w)
+{
+    int64_t t = cone_angle(n, w), z = t * t / ONE;
+    return (18 * n / ONE * (2147483648 - z - 1) - 3 * t) / 2147483648;
+}
+
+/* Where the halving cuts between lo and hi. */
+static int64_t cut(int64_t near, int64_t lo, int64_t hi)
+{
+    int64_t next = near <= lo ? lo + (lo - near) + 1 : near >= hi ? hi - (near - hi) - 1 : near;
+    return lo < next && next < hi ? next : lo + (hi - lo) / 2;
+}
+
+/* The steps of crates/cone (offset_unchecked, halve, cut) in C, with the engine's own guess, counted. They must give the engine's offset; that the
+ * engine takes as many is by reading, since other cuts of the halving would give the same offset. */
+static void count_offset(Count *count, int64_t n, int64_t x, int64_t v, int64_t w)
+{
+    int64_t near = melgoweth_test_guess_offset((uint32_t)n, (int32_t)x, (int32_t)v), evaluations = 0, lo = -w, hi = w, offset;
+    bool settled = false;
+    if (-w < near && near < w) {
+        int64_t east = east_of(n, x, v, near), margin = v * least_rise(n, w);
+        evaluations++;
+        settled = -margin <= east && east < margin;
+        if (settled)
+            lo = east < 0 ? near - 1 : near;
+    }
+    while (!settled && hi - lo > 1) {
+        int64_t mid = cut(near, lo, hi);
+        evaluations++;
+        if (east_of(n, x, v, mid) >= 0)
+            lo = mid;
+        else
+            hi = mid;
+    }
+    if (melgoweth_test_offset((uint32_t)n, x, v, (uint32_t)w, &offset) != 0 || offset != lo)
+        fail("the offset is not what the steps in C give");
+    count->points++;
+    count->evaluations += evaluations;
+    count->most = evaluations > count->most ? evaluations : count->most;
+    count->halved += !settled;
+}
+
+/* Random points on cones with constants and half-widths from low to high, at radii as sheets have them. */
+static Count count_on_cones(int64_t n_low, int64_t n_high, int64_t w_low, int64_t w_high)
+{
+    Count count = {0};
+    for (int i = 0; i < POSITIONS; i++) {
+        int64_t n = between(n_low, n_high), w = between(w_low, w_high), radius = between(1000000, 268435456);
+        long double d = between(-1000 * w, 1000 * w) / 1000.0L, t = d * UNIT * n / ONE;
+        count_offset(&count, n, llroundl(radius * sinl(t)), llroundl(radius * cosl(t)), w);
+    }
+    return count;
+}
+
+static void count_evaluations(void)
+{
+    int64_t r0 = sheet.radius_constant - sheet.origin_latitude;
+    for (int i = 0; i < POSITIONS; i++)
+        count_offset(&on_this_sheet, sheet.cone_constant, points[2 * i], r0 - points[2 * i + 1], sheet.half_width);
+    on_any_cone = count_on_cones(ONE / 8, ONE, 1000000, 60000000);
+    on_eighth = count_on_cones(ONE / 8, ONE / 8, 60000000, 60000000);
+    on_quarter = count_on_cones(ONE / 4, ONE / 4, 60000000, 60000000);
+    on_one = count_on_cones(ONE, ONE, 60000000, 60000000);
+}
+
+static double evaluations_for_a_point(const Count *count)
+{
+    return (double)count->evaluations / (double)count->points;
+}
+
+static void print_count(const char *what, const Count *count)
+{
+    printf("%-44s %12" PRId64 " %12.3f %12" PRId64 " %11.2f%%\n", what, count->points, evaluations_for_a_point(count), count->most,
+           100.0 * (double)count->halved / (double)count->points);
+}
+
+static void print_counts(void)
+{
+    printf("\nHow often sine and cosine are evaluated for the offset of a point\n");
+    printf("%-44s %12s %12s %12s %12s\n", "", "points", "a point", "at most", "halved");
+    print_count("this sheet, the points of its positions", &on_this_sheet);
+    print_count("n of 1/8 to 1, 1 to 60 degrees to each side", &on_any_cone);
+    print_count("n = 1/8, 60 degrees to each side", &on_eighth);
+    print_count("n = 1/4, 60 degrees to each side", &on_quarter);
+    print_count("n = 1, 60 degrees to each side", &on_one);
+}
+
 /* ---- What is timed */
 
 static void run_forward_each(void)
@@ -227,6 +345,12 @@ static void run_inverse(void)
         checksum += atlas_inverse(record, sizeof record, points[2 * i], points[2 * i + 1], &latitude, &longitude);
         checksum += latitude + longitude;
     }
+}
+
+static void run_inverse_each(void)
+{
+    checksum += atlas_inverse_each(record, sizeof record, points, 2 * POSITIONS, answers, 3 * POSITIONS);
+    checksum += answers[3 * POSITIONS - 1];
 }
 
 static void run_steps_in_c(void)
@@ -351,6 +475,7 @@ enum {
     STEPS_IN_C,
     PROJ_FORWARD, /* three ways; so PROJ_INVERSE */
     PROJ_FROM_UNITS = PROJ_FORWARD + 3,
+    INVERSE_EACH,
     INVERSE,
     PROJ_INVERSE,
     CHECK = PROJ_INVERSE + 3,
@@ -371,6 +496,7 @@ static Measure measures[MEASURES] = {
     {.what = "forward: PROJ, proj_trans_array", .calls = POSITIONS, .proj = trans_array, .direction = PJ_FWD},
     {.what = "forward: PROJ, proj_trans_generic", .calls = POSITIONS, .proj = trans_generic, .direction = PJ_FWD},
     [PROJ_FROM_UNITS] = {.what = "forward: PROJ, from units to whole units", .calls = POSITIONS, .engine = run_proj_from_units},
+    [INVERSE_EACH] = {.what = "inverse: atlas_inverse_each", .calls = POSITIONS, .engine = run_inverse_each},
     [INVERSE] = {.what = "inverse: atlas_inverse", .calls = POSITIONS, .engine = run_inverse},
     [PROJ_INVERSE] = {.what = "inverse: PROJ, proj_trans", .calls = POSITIONS, .proj = trans, .direction = PJ_INV},
     {.what = "inverse: PROJ, proj_trans_array", .calls = POSITIONS, .proj = trans_array, .direction = PJ_INV},
@@ -433,6 +559,7 @@ int main(void)
     check_forward();
     check_inverse();
     check_file_and_taps();
+    count_evaluations();
 
     for (int m = 0; m < MEASURES; m++)
         time_once(&measures[m]);
@@ -453,19 +580,25 @@ int main(void)
     printf("%-44s %8.2f\n", "forward, atlas_forward_each / PROJ from units", median(EACH) / median(PROJ_FROM_UNITS));
     printf("%-44s %8.2f\n", "forward, the same steps in C / PROJ", median(STEPS_IN_C) / proj_forward);
     printf("%-44s %8.2f\n", "forward, atlas_forward / PROJ", median(ONE_BY_ONE) / proj_forward);
+    printf("%-44s %8.2f\n", "inverse, atlas_inverse_each / PROJ", median(INVERSE_EACH) / proj_inverse);
     printf("%-44s %8.2f\n", "inverse, atlas_inverse / PROJ", median(INVERSE) / proj_inverse);
 
-    int steps = 0;
-    while (1LL << steps < 2LL * sheet.half_width)
-        steps++;
-    printf("\nWhere inverse's time goes, ns\n");
-    printf("%-44s %8.1f\n", "sheet check", median(SHEET_CHECK));
+    print_counts();
+
+    double often = evaluations_for_a_point(&on_this_sheet);
+    double each = median(ROOT) + often * median(PAIR), single = median(SHEET_CHECK) + median(PAIR) + each;
+    printf("\nWhere inverse's time goes, ns; the parts are measured alone, and in inverse they overlap\n");
     printf("%-44s %8.1f\n", "root", median(ROOT));
-    printf("%-44s %8.1f, %.1f for each of up to %d halvings\n", "the rest", median(INVERSE) - median(SHEET_CHECK) - median(ROOT),
-           (median(INVERSE) - median(SHEET_CHECK) - median(ROOT)) / steps, steps);
+    printf("%-44s %8.1f, %.2f times for a point\n", "a sine and a cosine", median(PAIR), often);
+    printf("%-44s %8.1f\n", "the rest of atlas_inverse_each", median(INVERSE_EACH) - each);
+    printf("%-44s %8.1f, in atlas_inverse\n", "sheet check", median(SHEET_CHECK));
+    printf("%-44s %8.1f, in atlas_inverse\n", "a sine and a cosine for the edges", median(PAIR));
+    printf("%-44s %8.1f\n", "the rest of atlas_inverse", median(INVERSE) - single);
 
     printf("\nTargets\n");
     print_target("forward / PROJ, sheet checked once", median(EACH) / proj_forward, "", "at most a third", 1.0 / 3);
+    print_target("inverse / PROJ, atlas_inverse_each", median(INVERSE_EACH) / proj_inverse, "", "at most 1", 1);
+    print_target("inverse / PROJ, atlas_inverse", median(INVERSE) / proj_inverse, "", "at most 2", 2);
     print_target("reading 1,000 places: atlas_check", median(CHECK) / 1e6, "ms", "under 1 ms", 1);
     print_target("reading 1,000 places: into a table", median(READ) / 1e6, "ms", "under 1 ms", 1);
     print_target("a tap: in a table of 1,000 places", median(TAP) / 1e3, "us", "under 5 us", 5);

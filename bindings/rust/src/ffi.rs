@@ -55,4 +55,12 @@ extern "C" {
         latitude: *mut i64,
         longitude: *mut i64,
     ) -> u32;
+    pub fn atlas_inverse_each(
+        sheet: *const u8,
+        sheet_length: usize,
+        points: *const i64,
+        points_length: usize,
+        answers: *mut i64,
+        answers_length: usize,
+    ) -> u32;
 }

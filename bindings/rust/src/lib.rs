@@ -214,6 +214,9 @@ pub struct Sheet {
     length: usize,
 }
 
+/// `atlas_forward_each` or `atlas_inverse_each`.
+type EachCall = unsafe extern "C" fn(*const u8, usize, *const i64, usize, *mut i64, usize) -> u32;
+
 impl Sheet {
     /// The sheet whose record the bytes are; refused with 1, 2, 4, 5 or 3.
     pub fn from_record(bytes: &[u8]) -> Result<Self, Refusal> {
@@ -264,27 +267,11 @@ impl Sheet {
 
     /// The same for many positions; the sheet is checked once.
     pub fn forward_each(&self, positions: &[Position]) -> Vec<Result<Point, Refusal>> {
-        let numbers: Vec<i64> = positions
+        let pairs: Vec<i64> = positions
             .iter()
             .flat_map(|p| [p.latitude, p.longitude])
             .collect();
-        let mut answers = vec![0; 3 * positions.len()];
-        let number = unsafe {
-            ffi::atlas_forward_each(
-                self.record.as_ptr(),
-                self.length,
-                numbers.as_ptr(),
-                numbers.len(),
-                answers.as_mut_ptr(),
-                answers.len(),
-            )
-        };
-        assert_eq!(
-            number, 0,
-            "the sheet is good, the positions are pairs, and there is room"
-        );
-        let point = |a: &[i64]| answer(a[0] as u32, Point { x: a[1], y: a[2] });
-        answers.chunks_exact(3).map(point).collect()
+        self.each(ffi::atlas_forward_each, &pairs, |x, y| Point { x, y })
     }
 
     /// From map to globe; refused with 12 or 11.
@@ -304,5 +291,44 @@ impl Sheet {
             )
         };
         answer(number, p)
+    }
+
+    /// The same for many points; the sheet is checked once.
+    pub fn inverse_each(&self, points: &[Point]) -> Vec<Result<Position, Refusal>> {
+        let pairs: Vec<i64> = points.iter().flat_map(|p| [p.x, p.y]).collect();
+        self.each(ffi::atlas_inverse_each, &pairs, |latitude, longitude| {
+            Position {
+                latitude,
+                longitude,
+            }
+        })
+    }
+
+    /// What `call` answers to each pair of numbers.
+    fn each<T>(
+        &self,
+        call: EachCall,
+        pairs: &[i64],
+        value: fn(i64, i64) -> T,
+    ) -> Vec<Result<T, Refusal>> {
+        let mut answers = vec![0; pairs.len() / 2 * 3];
+        let number = unsafe {
+            call(
+                self.record.as_ptr(),
+                self.length,
+                pairs.as_ptr(),
+                pairs.len(),
+                answers.as_mut_ptr(),
+                answers.len(),
+            )
+        };
+        assert_eq!(
+            number, 0,
+            "the sheet is good, the numbers are pairs, and there is room"
+        );
+        answers
+            .chunks_exact(3)
+            .map(|a| answer(a[0] as u32, value(a[1], a[2])))
+            .collect()
     }
 }

@@ -101,6 +101,9 @@ fn places_lie_where_the_sheet_puts_them() {
         assert!((back.latitude - position.latitude).abs() <= 2);
         assert!((back.longitude - position.longitude).abs() <= 2);
     }
+    let points: Vec<_> = points.into_iter().flatten().collect();
+    let back: Vec<_> = points.iter().map(|&p| atlas.sheet().inverse(p)).collect();
+    assert_eq!(atlas.sheet().inverse_each(&points), back);
 }
 
 #[test]
@@ -130,8 +133,15 @@ fn examples_of_document_01() {
             longitude: 10000000
         })
     );
-    assert_eq!(sheet.inverse(Point { x: 0, y: 129239201 }), refused(11));
+    let apex = Point { x: 0, y: 129239201 };
+    assert_eq!(sheet.inverse(apex), refused(11));
+    let beyond = Point { x: 536870913, y: 5 };
+    assert_eq!(
+        sheet.inverse_each(&[Point { x: 0, y: 1000000 }, apex, beyond]),
+        vec![back, refused(11), refused(12)]
+    );
     assert_eq!(sheet.forward_each(&[]), vec![]);
+    assert_eq!(sheet.inverse_each(&[]), vec![]);
 }
 
 #[test]

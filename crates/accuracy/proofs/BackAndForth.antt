@@ -14,10 +14,11 @@ use Rattle.trig.specs.Trig.{ONE, angleOf, sineOf, cosineOf}
 use Rattle.trig.proofs.Circle.{near-circle}
 use Rattle.trig.proofs.Spread.{cosine-least, nearby-angles}
 use Rattle.sheet.specs.declared.Sheet.{Sheet}
-use Rattle.sheet.specs.Sheets.{w, n, g, coneAngleOf, passesChecks}
-use Rattle.sheet.proofs.ConeAngles.{cone-angle-size, cone-angle-step}
+use Rattle.cone.specs.Cone.{coneAngleOf, radiusAt, notLeft, notRight, offsetAt}
+use Rattle.sheet.specs.Sheets.{w, n, g, passesChecks}
+use Rattle.cone.proofs.ConeAngles.{cone-angle-size, cone-angle-step}
 use Rattle.conic.specs.Conic.{rOf, r0, tOf, xAt, yAt, xOf, yOf}
-use Rattle.conic.specs.MapToGlobe.{pointInRange, vOf, radiusAt, notLeft, notRight, pointOnSheet, offsetAt, latitudeOf, longitudeOf}
+use Rattle.conic.specs.MapToGlobe.{pointInRange, vOf, pointOnSheet, latitudeOf, longitudeOf}
 use Rattle.accuracy.specs.Accuracy.{BackWithinSixteenUnits}
 use Rattle.conic.proofs.Ranges.{limits, n-size}
 use Rattle.conic.proofs.Answered.{on-sheet-answered}

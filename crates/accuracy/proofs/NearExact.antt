@@ -16,7 +16,7 @@ use Rattle.trig.specs.Trig.{ONE, sineOf, cosineOf}
 use Rattle.trig.specs.Exact.{Fraction, whole, _times_, _minus_, sine, cosine, Near}
 use Rattle.trig.proofs.PowerSeries.{sine-positive, cosine-positive}
 use Rattle.trig.proofs.ExactErrors.{Off, sine-off, cosine-off}
-use Rattle.sheet.specs.Sheets.{coneAngleOf}
+use Rattle.cone.specs.Cone.{coneAngleOf}
 use Rattle.accuracy.specs.Exact.{thetaOf}
 use Rattle.accuracy.proofs.SheetAngle.{near-theta}
 

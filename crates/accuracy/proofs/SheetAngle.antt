@@ -12,7 +12,7 @@ use Rattle.arith.proofs.Size.{size-cancel, size-+, size-neg, size-*, size-scale
 use Rattle.arith.proofs.Fits.{ranges, inside-of}
 use Rattle.trig.specs.Trig.{ONE, angleFactor, angleOf}
 use Rattle.trig.proofs.NearAngle.{NearAngle, near-angle-by}
-use Rattle.sheet.specs.Sheets.{coneAngleOf}
+use Rattle.cone.specs.Cone.{coneAngleOf}
 use Rattle.accuracy.specs.Exact.{thetaOf}
 
 pub near-theta : (n d : ℤ) → Size ONE n → Size (pos 60000000) d → NearAngle (coneAngleOf n d) (thetaOf n d .num) (pos (thetaOf n d .den)) (pos 2030) (pos 5263)

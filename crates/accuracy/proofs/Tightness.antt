@@ -4,10 +4,11 @@ use lib.Dec.{lit<, lt→ltb}
 use lib.Signed.{ltZ-yes, clashℤ}
 use Rattle.trig.specs.Trig.{angleOf, squareOf, seriesOf, sineOf, cosineOf, rootBits, rootBelow, rounded, rootOf}
 use Rattle.trig.specs.Exact.{power, factorial, series, sine, cosine}
-use Rattle.sheet.specs.Sheets.{withinLimits, coneAngleOf, coneAgrees, radiusAgrees, constantsAgree, sheetRules, shifted, offsetOf, onSheet}
+use Rattle.cone.specs.Cone.{coneAngleOf, radiusAt, notLeft, notRight, halved, lastLo}
+use Rattle.sheet.specs.Sheets.{withinLimits, coneAgrees, radiusAgrees, constantsAgree, sheetRules, shifted, offsetOf, onSheet}
 use Rattle.sheet.specs.Laws.{mirrored}
 use Rattle.conic.specs.Conic.{tOf, xAt, yAt, xOf, yOf}
-use Rattle.conic.specs.MapToGlobe.{radiusAt, notLeft, notRight, pointOnSheet, halved, lastLo, latitudeOf, longitudeOf, pointRules}
+use Rattle.conic.specs.MapToGlobe.{pointOnSheet, latitudeOf, longitudeOf, pointRules}
 use Rattle.accuracy.specs.Exact.{theta, X, Y}
 use Rattle.accuracy.specs.Tight.{FourUnitsOffIsFalse, OneUnitIsFalse, FloorBreaksMirror, OneUnitBackIsFalse}
 

@@ -1,13 +1,18 @@
 -- Bytes as a sheet: what is taken passes its checks, and the record of a good sheet is taken. Assumes nothing.
-use Prim.Native.Nat.{ℕ, _+_}
+use Prim.Native.Nat.{ℕ, _+_, _/_, _≤_}
 use native.Mathlib.Nat.{zero-add}
+use native.Mathlib.Omega.{arith}
 use mathlib.Core.Bool.{Bool, true, false, true≢false}
 use mathlib.Core.List.{List, [], append-nil}
 use mathlib.Core.Path.{_≡_, refl, sym, ap, _∙_}
-use borrow.Author.Tests.{eq-eqb}
+use borrow.Author.Tests.{eq-eqb, leb-true}
 use lib.ListN.{length}
+use Rattle.refusal.specs.declared.Refusal.{Refusal}
+use Rattle.refusal.proofs.InOrder.{by-outcome, each-holds}
+use Rattle.sheet.specs.declared.Sheet.{Sheet}
 use Rattle.sheet.specs.Sheets.{passesChecks}
-use Rattle.records.specs.Records.{sheetOf, sheetRecord}
+use Rattle.records.specs.declared.Record.the-variants as records
+use Rattle.records.specs.Records.{IsRecord, sheetOf, sheetRecord}
 use Rattle.records.proofs.SheetRecords.{sheet-kind, sheet-back, sheet-decoded}
 use Rattle.atlas_file.specs.declared.Found.{Found}
 use Rattle.atlas_file.specs.declared.Found.the-variants as found
@@ -18,7 +23,7 @@ use Rattle.integrity.proofs.Accepted.{whole, bytes-of-part}
 use Rattle.integrity.proofs.RunReads.{sheet-reads}
 use Rattle.atlas_c.specs.declared.SheetAnswer.{SheetAnswer}
 use Rattle.atlas_c.specs.declared.SheetAnswer.the-variants as sheet
-use Rattle.atlas_c.specs.Given.{fileReply, firstSheet, sheetIn}
+use Rattle.atlas_c.specs.Given.{fileReply, firstSheet, sheetIn, eachRules, sheetForEach}
 use Rattle.atlas_c.specs.Laws.{SheetTaken, FileSheetTaken, TakenPasses, NoPlaceFirst, NoEndFirst}
 
 -- whether the checks of an answer's sheet hold; of a refusal, yes
@@ -38,13 +43,30 @@ pub taken-passes : TakenPasses
 unfolding sheetIn
 taken-passes b s e = ap passes (sym e) ∙ first-passes b _ refl _
 
-pub sheet-taken : SheetTaken
+not-refused : {why : Refusal} {s : Sheet} → sheet.Refused why ≡ sheet.Sheet s → ⊥
+not-refused e = let z : _≡_ {A = ℕ} 0 1 = cc in omega arith
+
+-- where pairs are answered, the sheet is taken, and there is room for the answers
+allowed : (a : SheetAnswer) (numbers size : ℕ) (s : Sheet) → sheetForEach a numbers size ≡ sheet.Sheet s → (a ≡ sheet.Sheet s) × (numbers / 2 ≤ size / 3)
+unfolding eachRules
+allowed (sheet.Sheet t) numbers size s =
+    by-outcome SheetAnswer (λ a. a ≡ sheet.Sheet s → (sheet.Sheet t ≡ sheet.Sheet s) × (numbers / 2 ≤ size / 3)) (eachRules numbers size) (sheet.Sheet t) sheet.Refused
+    (λ h e. (e, leb-true _ _ (each-holds (eachRules numbers size) h .1 .0)))
+    (λ why e. absurd (not-refused e))
+allowed (sheet.Refused why) numbers size s = λ e. absurd (not-refused e)
+
+pub each-taken : (b : List ℕ) (numbers size : ℕ) (s : Sheet) → sheetForEach (sheetIn b) numbers size ≡ sheet.Sheet s → (passesChecks s ≡ true) × (numbers / 2 ≤ size / 3)
+each-taken b numbers size s e =
+    let (taken, room) = allowed (sheetIn b) numbers size s e in
+    (taken-passes b s taken, room)
+
+-- one whole record of a good sheet is taken as it is
+pub record-taken : (r : List ℕ) → IsRecord records.Sheet r → passesChecks (sheetOf r) ≡ true → sheetIn r ≡ sheet.Sheet (sheetOf r)
 unfolding startOf sheetIn firstSheet
-sheet-taken s i ok =
-    let r = sheetRecord s in
-    let back = sheet-back s i in
-    let step = sheet-reads r (startOf 0) r [] (sheet-kind s) (sym (append-nil r)) refl (rw back ok) in
-    rw (step, back, eq-eqb (0 + length r) (length r) (zero-add (length r)))
+record-taken r i ok = rw (sheet-reads r (startOf 0) r [] i (sym (append-nil r)) refl ok, eq-eqb (0 + length r) (length r) (zero-add (length r)))
+
+pub sheet-taken : SheetTaken
+sheet-taken s i ok = let back = sheet-back s i in record-taken (sheetRecord s) (sheet-kind s) (rw back ok) ∙ ap sheet.Sheet back
 
 pub file-sheet-taken : FileSheetTaken
 file-sheet-taken b bytes e =

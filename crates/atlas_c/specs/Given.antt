@@ -83,26 +83,34 @@ forwardReply b latitude longitude = answered (sheetIn b) (λ s. forward.forwardR
 abbrev pub inverseReply : (sheet : List ℕ) (x y : ℤ) → Reply
 inverseReply b x y = answered (sheetIn b) (λ s. inverse.inverseReply s x y)
 
--- MANY POSITIONS on one sheet: latitude, longitude, .. Three numbers are answered to each: the number, x and y
+-- MANY POSITIONS, OR MANY POINTS, on one sheet: pairs of numbers, latitude, longitude, .. or x, y, .. Three numbers are answered to each pair: the number, and the two values
 abbrev pub eachAnswerOf : Reply → List ℤ
 eachAnswerOf q = pos (q .number) ∷ q .values
 
--- the answers to the first so many
-unfoldable pub eachAnswers : Sheet → (positions : List ℤ) (count : ℕ) → List ℤ
-eachAnswers s ps zero = []
-eachAnswers s ps (suc k) = eachAnswers s ps k ++ eachAnswerOf (forward.forwardReply s (getD ps (2 * k) (pos 0)) (getD ps (2 * k + 1) (pos 0)))
+-- the answers to the first so many pairs
+unfoldable pub eachAnswers : (answer : ℤ → ℤ → Reply) (pairs : List ℤ) (count : ℕ) → List ℤ
+eachAnswers answer ps zero = []
+eachAnswers answer ps (suc k) = eachAnswers answer ps k ++ eachAnswerOf (answer (getD ps (2 * k) (pos 0)) (getD ps (2 * k + 1) (pos 0)))
 
--- the refusals of the whole, after the sheet's: 12 where a latitude has no longitude; then 10 where there is no room for three numbers to each
-unfoldable pub eachRules : (positions : List ℤ) (size : ℕ) → List Rule
-eachRules ps size = (eqb (length ps % 2) 0 else-refuse OutOfRange) ∷ (leb (length ps / 2) (size / 3) else-refuse NoRoom) ∷ []
+-- the refusals of the whole, after the sheet's: 12 where a first number has no second; then 10 where there is no room for three numbers to each pair
+unfoldable pub eachRules : (numbers size : ℕ) → List Rule
+eachRules numbers size = (eqb (numbers % 2) 0 else-refuse OutOfRange) ∷ (leb (numbers / 2) (size / 3) else-refuse NoRoom) ∷ []
+
+-- the sheet on which the pairs are answered, or why none is
+abbrev pub sheetForEach : SheetAnswer → (numbers size : ℕ) → SheetAnswer
+sheetForEach (sheet.Sheet s) numbers size = outcome (eachRules numbers size) (sheet.Sheet s) sheet.Refused
+sheetForEach (sheet.Refused why) numbers size = sheet.Refused why
 
 -- the number, and what the slice of answers holds then: later ones are unchanged, and on refusal all
-abbrev pub eachOn : SheetAnswer → (positions before : List ℤ) → Reply
-eachOn (sheet.Sheet s) ps before =
-    outcome (eachRules ps (length before))
-    (accepted (eachAnswers s ps (length ps / 2) ++ drop (3 * (length ps / 2)) before))
-    (λ why. given (numberOf why) before)
-eachOn (sheet.Refused why) ps before = given (numberOf why) before
+abbrev pub eachOn : (answer : Sheet → ℤ → ℤ → Reply) → SheetAnswer → (pairs before : List ℤ) → Reply
+eachOn answer (sheet.Sheet s) ps before = accepted (eachAnswers (answer s) ps (length ps / 2) ++ drop (3 * (length ps / 2)) before)
+eachOn answer (sheet.Refused why) ps before = given (numberOf why) before
 
-abbrev pub eachReply : (sheet : List ℕ) (positions before : List ℤ) → Reply
-eachReply b ps before = eachOn (sheetIn b) ps before
+abbrev pub eachReply : (answer : Sheet → ℤ → ℤ → Reply) → (sheet : List ℕ) (pairs before : List ℤ) → Reply
+eachReply answer b ps before = eachOn answer (sheetForEach (sheetIn b) (length ps) (length before)) ps before
+
+abbrev pub forwardEachReply : (sheet : List ℕ) (positions before : List ℤ) → Reply
+forwardEachReply = eachReply forward.forwardReply
+
+abbrev pub inverseEachReply : (sheet : List ℕ) (points before : List ℤ) → Reply
+inverseEachReply = eachReply inverse.inverseReply

@@ -10,11 +10,15 @@ ghost use lib.IntN.{pos};
 ghost use lib.ListN.{length, drop};
 ghost use Rattle.refusal.specs.Numbers.{numberOf};
 ghost use Rattle.sheet.specs.Sheets.{passesChecks};
+ghost use Rattle.records.specs.Records.{IsRecord};
+ghost use Rattle.records.specs.declared.Record.the-variants as records;
+ghost use Rattle.conic.specs.Conic as forward;
 ghost use Rattle.conic.specs.Conic.{mapReplyOf};
+ghost use Rattle.conic.specs.MapToGlobe as inverse;
 ghost use Rattle.conic.specs.MapToGlobe.{globeReplyOf};
 ghost use Rattle.nearest.specs.Taps.{usualReach};
 ghost use Rattle.atlas_file.specs.Reading.{fileReplyOf};
-ghost use Rattle.atlas_c.specs.Given.{given, orUntouched, fileReply, countReply, sheetReply, sheetAfter, placeReply, nearestReply, sheetIn, forwardReply, inverseReply, eachAnswerOf, eachAnswers, eachReply};
+ghost use Rattle.atlas_c.specs.Given.{given, orUntouched, fileReply, countReply, sheetReply, sheetAfter, placeReply, nearestReply, sheetIn, forwardReply, inverseReply, eachAnswerOf, eachAnswers, sheetForEach, forwardEachReply, inverseEachReply};
 use atlas_file::FileAnswer;
 use atlas_file::Found;
 use atlas_file::MOST_PLACES;
@@ -22,8 +26,11 @@ use conic::GlobeAnswer;
 use conic::MapAnswer;
 use lookup::Lookup;
 use nearest::USUAL_REACH;
+use records::Layout;
+use records::Record;
 use refusal::Refusal;
 use sheet::Sheet;
+use sheet::Verdict;
 
 // Whether a file is good.
 #[no_mangle]
@@ -174,58 +181,15 @@ pub extern "C" fn atlas_forward(
 // The same for many positions on one sheet, which is checked once: latitude, longitude, ..; three numbers are answered to each.
 #[no_mangle]
 pub extern "C" fn atlas_forward_each(sheet: &[u8], positions: &[i64], answers: &mut [i64]) -> u32
-    ensures { λ r. ⌜ given r (now (answers .exit)) ≡ eachReply (now (sheet .entry)) (now (positions .entry)) (now (answers .entry)) ⌝ }
+    ensures { λ r. ⌜ given r (now (answers .exit)) ≡ forwardEachReply (now (sheet .entry)) (now (positions .entry)) (now (answers .entry)) ⌝ }
 {
-    let answer = sheet_in(sheet);
+    let answer = sheet_for_each(sheet, positions.len(), answers.len());
     match answer {
         SheetAnswer::Sheet(s) => {
-            if positions.len() % 2 != 0 {
-                return number(Refusal::OutOfRange);
-            }
-            let count = positions.len() / 2;
-            if answers.len() / 3 < count {
-                return number(Refusal::NoRoom);
-            }
-            forward_each(s, positions, count, answers);
+            forward_each(s, positions, positions.len() / 2, answers);
             0
         }
         SheetAnswer::Refused(r) => number(r),
-    }
-}
-
-// Sets the answers to the first `count` positions, each into its own part of the slice.
-fn forward_each(sheet: Sheet, positions: &[i64], count: usize, answers: &mut [i64])
-    requires { ⌜ passesChecks sheet ≡ true ⌝ }
-    requires { ⌜ 2 * count ≤ length (now positions) ⌝ }
-    requires { ⌜ 3 * count ≤ length (now answers) ⌝ }
-    ensures { λ _. ⌜ now (answers .exit) ≡ eachAnswers sheet (now (positions .entry)) count ++ drop (3 * count) (now (answers .entry)) ⌝ }
-{
-    let mut k = 0;
-    while k < count {
-        let answer = conic::forward_unchecked(sheet, positions[2 * k], positions[2 * k + 1]);
-        let at = 3 * k;
-        let end = at + 3;
-        set_answer(&mut answers[at..end], answer);
-        k += 1;
-    }
-}
-
-// The answer to one position: the refusal's number, x and y.
-fn set_answer(part: &mut [i64], answer: MapAnswer)
-    requires { ⌜ length (now part) ≡ 3 ⌝ }
-    ensures { λ _. ⌜ now (part .exit) ≡ eachAnswerOf (mapReplyOf answer) ⌝ }
-{
-    match answer {
-        MapAnswer::Point { x, y } => {
-            part[0] = 0;
-            part[1] = x;
-            part[2] = y;
-        }
-        MapAnswer::Refused(r) => {
-            part[0] = refusal::number(r) as i64;
-            part[1] = 0;
-            part[2] = 0;
-        }
     }
 }
 
@@ -254,6 +218,21 @@ pub extern "C" fn atlas_inverse(
     }
 }
 
+// The same for many points on one sheet, which is checked once: x, y, ..; three numbers are answered to each.
+#[no_mangle]
+pub extern "C" fn atlas_inverse_each(sheet: &[u8], points: &[i64], answers: &mut [i64]) -> u32
+    ensures { λ r. ⌜ given r (now (answers .exit)) ≡ inverseEachReply (now (sheet .entry)) (now (points .entry)) (now (answers .entry)) ⌝ }
+{
+    let answer = sheet_for_each(sheet, points.len(), answers.len());
+    match answer {
+        SheetAnswer::Sheet(s) => {
+            inverse_each(s, points, points.len() / 2, answers);
+            0
+        }
+        SheetAnswer::Refused(r) => number(r),
+    }
+}
+
 // Reads a file through, with room for as many places as a file can have.
 fn read_file(file: &[u8]) -> FileAnswer
     ensures { λ r. ⌜ fileReplyOf r ≡ fileReply (now (file .entry)) ⌝ }
@@ -274,8 +253,41 @@ enum SheetAnswer {
     Refused(Refusal),
 }
 
-// Bytes as a sheet: refused as the first record of a file is, then 3 if bytes follow it. A place and the end are not due first.
+// Bytes as a sheet: refused as the first record of a file is, then 3 if bytes follow it. One whole record of a good sheet, which is what an app has,
+// is taken without a reader's state.
 fn sheet_in(bytes: &[u8]) -> SheetAnswer
+    ensures { λ r. ⌜ r ≡ sheetIn (now (bytes .entry)) ⌝ }
+{
+    if is_sheet_record(bytes) {
+        let sheet = records::decode_sheet_unchecked(bytes);
+        let verdict = sheet::check(sheet);
+        if let Verdict::Good = verdict {
+            return SheetAnswer::Sheet(sheet);
+        }
+    }
+    first_sheet(bytes)
+}
+
+// Whether the bytes are one whole record of a sheet.
+fn is_sheet_record(bytes: &[u8]) -> bool
+    ensures { λ b. ⌜ (b ≡ true → IsRecord records.Sheet (now (bytes .entry))) ⌝ }
+{
+    if bytes.len() == 0 {
+        return false;
+    }
+    let layout = records::layout_of(bytes[0]);
+    match layout {
+        Layout::Known { record, body } => match record {
+            Record::Sheet => bytes.len() - 1 == body,
+            Record::Place => false,
+            Record::End => false,
+        },
+        Layout::Refused(_) => false,
+    }
+}
+
+// The same by a reader's first step. A place and the end are not due first.
+fn first_sheet(bytes: &[u8]) -> SheetAnswer
     ensures { λ r. ⌜ r ≡ sheetIn (now (bytes .entry)) ⌝ }
 {
     let answer = atlas_file::step(bytes, atlas_file::start(0));
@@ -291,6 +303,26 @@ fn sheet_in(bytes: &[u8]) -> SheetAnswer
         Found::Place => SheetAnswer::Refused(Refusal::Kind),
         Found::End { count: _ } => SheetAnswer::Refused(Refusal::Kind),
         Found::Refused { refusal, offset: _ } => SheetAnswer::Refused(refusal),
+    }
+}
+
+// The sheet on which pairs of numbers are answered, by three numbers each: refused as the sheet is, then 12 if a first number has no second, then
+// 10 if there is no room for the answers.
+fn sheet_for_each(bytes: &[u8], numbers: usize, room: usize) -> SheetAnswer
+    ensures { λ r. ⌜ r ≡ sheetForEach (sheetIn (now (bytes .entry))) numbers room ⌝ }
+{
+    let answer = sheet_in(bytes);
+    match answer {
+        SheetAnswer::Sheet(sheet) => {
+            if numbers % 2 != 0 {
+                return SheetAnswer::Refused(Refusal::OutOfRange);
+            }
+            if room / 3 < numbers / 2 {
+                return SheetAnswer::Refused(Refusal::NoRoom);
+            }
+            SheetAnswer::Sheet(sheet)
+        }
+        SheetAnswer::Refused(r) => SheetAnswer::Refused(r),
     }
 }
 
@@ -311,7 +343,82 @@ fn inverse_of(bytes: &[u8], x: i64, y: i64) -> GlobeAnswer
 {
     let answer = sheet_in(bytes);
     match answer {
-        SheetAnswer::Sheet(sheet) => conic::inverse(sheet, x, y),
+        SheetAnswer::Sheet(sheet) => conic::inverse_unchecked(sheet, x, y),
         SheetAnswer::Refused(r) => GlobeAnswer::Refused(r),
     }
+}
+
+// Sets the answers to the first `count` positions, each into its own part of the slice.
+fn forward_each(sheet: Sheet, positions: &[i64], count: usize, answers: &mut [i64])
+    requires { ⌜ passesChecks sheet ≡ true ⌝ }
+    requires { ⌜ 2 * count ≤ length (now positions) ⌝ }
+    requires { ⌜ 3 * count ≤ length (now answers) ⌝ }
+    ensures { λ _. ⌜ now (answers .exit) ≡ eachAnswers (forward.forwardReply sheet) (now (positions .entry)) count ++ drop (3 * count) (now (answers .entry)) ⌝ }
+{
+    let mut k = 0;
+    while k < count {
+        let answer = conic::forward_unchecked(sheet, positions[2 * k], positions[2 * k + 1]);
+        let at = 3 * k;
+        let end = at + 3;
+        set_map_answer(&mut answers[at..end], answer);
+        k += 1;
+    }
+}
+
+// The same for points.
+fn inverse_each(sheet: Sheet, points: &[i64], count: usize, answers: &mut [i64])
+    requires { ⌜ passesChecks sheet ≡ true ⌝ }
+    requires { ⌜ 2 * count ≤ length (now points) ⌝ }
+    requires { ⌜ 3 * count ≤ length (now answers) ⌝ }
+    ensures { λ _. ⌜ now (answers .exit) ≡ eachAnswers (inverse.inverseReply sheet) (now (points .entry)) count ++ drop (3 * count) (now (answers .entry)) ⌝ }
+{
+    let values = conic::inverse_values_unchecked(sheet);
+    let mut k = 0;
+    while k < count {
+        let answer = conic::inverse_by_values_unchecked(
+            sheet,
+            values,
+            points[2 * k],
+            points[2 * k + 1],
+        );
+        let at = 3 * k;
+        let end = at + 3;
+        set_globe_answer(&mut answers[at..end], answer);
+        k += 1;
+    }
+}
+
+// The answer to a position: the refusal's number, x and y.
+fn set_map_answer(part: &mut [i64], answer: MapAnswer)
+    requires { ⌜ length (now part) ≡ 3 ⌝ }
+    ensures { λ _. ⌜ now (part .exit) ≡ eachAnswerOf (mapReplyOf answer) ⌝ }
+{
+    match answer {
+        MapAnswer::Point { x, y } => set_three(part, 0, x, y),
+        MapAnswer::Refused(r) => set_three(part, number(r), 0, 0),
+    }
+}
+
+// The answer to a point: the refusal's number, latitude and longitude.
+fn set_globe_answer(part: &mut [i64], answer: GlobeAnswer)
+    requires { ⌜ length (now part) ≡ 3 ⌝ }
+    ensures { λ _. ⌜ now (part .exit) ≡ eachAnswerOf (globeReplyOf answer) ⌝ }
+{
+    match answer {
+        GlobeAnswer::Position {
+            latitude,
+            longitude,
+        } => set_three(part, 0, latitude, longitude),
+        GlobeAnswer::Refused(r) => set_three(part, number(r), 0, 0),
+    }
+}
+
+// Sets the three numbers of one answer.
+fn set_three(part: &mut [i64], number: u32, first: i64, second: i64)
+    requires { ⌜ length (now part) ≡ 3 ⌝ }
+    ensures { λ _. ⌜ now (part .exit) ≡ pos number ∷ first ∷ second ∷ [] ⌝ }
+{
+    part[0] = number as i64;
+    part[1] = first;
+    part[2] = second;
 }

@@ -3,6 +3,5 @@ pub mod Answers
 pub mod Ranges
 pub mod Answered
 pub mod Mirrored
-pub mod Halving
 pub mod OwnSheet
 pub mod Distance

@@ -6,12 +6,12 @@ use Rattle.arith.proofs.Quot.{quot-neg}
 use Rattle.refusal.proofs.InOrder.{agree-behind}
 use Rattle.trig.specs.Trig.{sineOf}
 use Rattle.trig.proofs.Mirror.{sine-odd, cosine-even}
+use Rattle.cone.proofs.ConeAngles.{cone-angle-odd}
 use Rattle.sheet.specs.declared.Sheet.{Sheet}
 use Rattle.sheet.specs.Sheets.{n, sheetRules, offsetOf}
 use Rattle.sheet.specs.Laws.{mirrored}
 use Rattle.sheet.proofs.Limits.{passes-limits}
 use Rattle.sheet.proofs.Meridians.{same-meridian as same-on-sheet, mirrored-offset}
-use Rattle.sheet.proofs.ConeAngles.{cone-angle-odd}
 use Rattle.conic.specs.Conic.{rOf, tOf, xAt, yAt, xOf, yOf, positionRules}
 use Rattle.conic.specs.Laws.{Mirror, SameMeridian}
 use Rattle.conic.proofs.Answered.{on-sheet-answered, answered-on-sheet}

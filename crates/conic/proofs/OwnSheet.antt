@@ -15,16 +15,17 @@ use Rattle.refusal.specs.declared.Refusal.the-variants.{OffSheet, OutOfRange}
 use Rattle.refusal.specs.Numbers.{Reply, accepted, refused}
 use Rattle.refusal.specs.Rules.{inOrder}
 use Rattle.refusal.proofs.InOrder.{each-holds, others-decide, agree-behind, both-hold, not-refused-all-hold}
+use Rattle.cone.specs.Cone.{radiusAt, notLeft, notRight, offsetAt}
+use Rattle.cone.proofs.Halving.{last-lo-between}
 use Rattle.sheet.specs.declared.Sheet.{Sheet}
 use Rattle.sheet.specs.Sheets.{fs, fn, w, n, g, sheetRules, passesChecks, offsetOf, onSheet}
 use Rattle.sheet.proofs.Limits.{passes-limits}
 use Rattle.sheet.proofs.Positions.{holds-on-sheet}
 use Rattle.sheet.proofs.Meridians.{longitude-at-offset}
 use Rattle.sheet.proofs.Answers.{checks-first}
-use Rattle.conic.specs.MapToGlobe.{pointInRange, vOf, radiusAt, notLeft, notRight, pointOnSheet, offsetAt, latitudeOf, longitudeOf, heldReply, pointRules, inverseReply}
+use Rattle.conic.specs.MapToGlobe.{pointInRange, vOf, pointOnSheet, latitudeOf, longitudeOf, heldReply, pointRules, inverseReply}
 use Rattle.conic.specs.Laws.{OnItsOwnSheet, NoTestNeeded, NeverFifteen, PointAnswered, NotRefusedOnSheet}
 use Rattle.conic.proofs.Ranges.{limits}
-use Rattle.conic.proofs.Halving.{last-lo-between}
 
 -- a map point on the sheet, part by part
 abbrev says-not-left : (n x v d : ℤ) → Says (notLeft n x v d)

@@ -2,31 +2,16 @@
 use mathlib.Core.Path.{_≡_}
 use mathlib.Core.Bool.{true}
 use lib.IntN.{ℤ, pos}
-use lib.Signed.{leZ-yes}
 use Rattle.arith.specs.Bounds.{Size}
 use Rattle.arith.proofs.Parts.{linear, neg-parts}
-use Rattle.arith.proofs.Size.{size-wider}
-use Rattle.trig.specs.Trig.{ONE, angleOf, sineLimit}
-use Rattle.trig.proofs.Sizes.{sine-within, cosine-size}
+use Rattle.trig.specs.Trig.{ONE, sineLimit}
+use Rattle.cone.proofs.Sizes.{cone-angle-range}
 use Rattle.sheet.specs.declared.Sheet.{Sheet}
-use Rattle.sheet.specs.Sheets.{f0, w, n, coneAngleOf, passesChecks, offsetOf, onSheet}
+use Rattle.sheet.specs.Sheets.{f0, w, n, passesChecks, offsetOf, onSheet}
 use Rattle.sheet.specs.Laws.{InLimits, IsOnSheet}
 use Rattle.sheet.proofs.Limits.{limits-hold, passes-limits, radius-size}
 use Rattle.sheet.proofs.Positions.{on-sheet-holds}
-use Rattle.sheet.proofs.ConeAngles.{cone-angle-size}
 use Rattle.conic.specs.Conic.{rOf, r0, tOf}
-use Rattle.conic.specs.MapToGlobe.{sineAt, cosineAt}
-
--- sine and cosine take the angle on the cone of an offset
-pub cone-angle-range : (n d : ℤ) → Size ONE n → Size (pos 60000000) d → Size (pos sineLimit) (coneAngleOf n d)
-unfolding angleOf
-cone-angle-range n d n-up-to d-up-to = size-wider (leZ-yes tt) (cone-angle-size n (pos 60000000) d n-up-to d-up-to)
-
-pub sine-at-size : (n d : ℤ) → Size ONE n → Size (pos 60000000) d → Size (pos sineLimit) (sineAt n d)
-sine-at-size n d n-up-to d-up-to = sine-within (coneAngleOf n d) (cone-angle-range n d n-up-to d-up-to)
-
-pub cosine-at-size : (n d : ℤ) → Size ONE n → Size (pos 60000000) d → Size ONE (cosineAt n d)
-cosine-at-size n d n-up-to d-up-to = cosine-size (coneAngleOf n d) (cone-angle-range n d n-up-to d-up-to)
 
 module _ (s : Sheet) (p : passesChecks s ≡ true) where
   pub limits : InLimits s

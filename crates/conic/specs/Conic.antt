@@ -8,8 +8,9 @@ use Rattle.refusal.specs.declared.Refusal.the-variants.{OffSheet, OutOfRange}
 use Rattle.refusal.specs.Numbers.{Reply, accepted, refused}
 use Rattle.refusal.specs.Rules.{Rule, _else-refuse_, inOrder}
 use Rattle.trig.specs.Trig.{ONE, sineOf, cosineOf}
+use Rattle.cone.specs.Cone.{coneAngleOf}
 use Rattle.sheet.specs.declared.Sheet.{Sheet}
-use Rattle.sheet.specs.Sheets.{f0, n, g, coneAngleOf, sheetRules, offsetOf, onSheet}
+use Rattle.sheet.specs.Sheets.{f0, n, g, sheetRules, offsetOf, onSheet}
 use Rattle.conic.specs.declared.MapAnswer.{MapAnswer}
 use Rattle.conic.specs.declared.MapAnswer.the-variants.{Point, Refused}
 

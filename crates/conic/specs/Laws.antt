@@ -1,19 +1,20 @@
 -- What holds of globe to map and of map to globe: the mirror, and the laws that the other crates go by. Each is proved in proofs/, in the file that its comment names. Demand 3 is in `accuracy`.
-use mathlib.Core.Bool.{true, cond}
+use mathlib.Core.Bool.{true}
 use mathlib.Core.List.{[], _∷_, _++_}
 use mathlib.Core.Path.{_≡_}
-use lib.IntN.{ℤ, pos, negℤ, _+ℤ_, _-ℤ_, _*ℤ_}
-use lib.Signed.{_≤ℤ_, _<ℤ_}
+use lib.IntN.{ℤ, pos, negℤ, _+ℤ_, _*ℤ_}
+use lib.Signed.{_<ℤ_}
 use Rattle.refusal.specs.Numbers.{accepted}
 use Rattle.refusal.specs.Rules.{inOrder}
 use Rattle.trig.specs.Trig.{Root}
+use Rattle.cone.specs.Cone.{radiusAt}
 use Rattle.sheet.specs.declared.Sheet.{Sheet}
 use Rattle.sheet.specs.Sheets.{passesChecks, sheetRules, onSheet}
 use Rattle.sheet.specs.Laws.{mirrored}
 use Rattle.conic.specs.declared.MapAnswer.{MapAnswer}
 use Rattle.conic.specs.declared.GlobeAnswer.{GlobeAnswer}
 use Rattle.conic.specs.Conic.{xOf, yOf, forwardReply, mapReplyOf}
-use Rattle.conic.specs.MapToGlobe.{pointInRange, vOf, radiusAt, notLeft, notRight, pointOnSheet, middle, lastLo, latitudeOf, longitudeOf, pointRules, inverseReply, globeReplyOf}
+use Rattle.conic.specs.MapToGlobe.{pointInRange, vOf, pointOnSheet, latitudeOf, longitudeOf, pointRules, inverseReply, globeReplyOf}
 
 -- two answers never share a number and values, so that the contracts fix the answer (Answers)
 abbrev pub DistinctMapReplies : Type 0
@@ -49,21 +50,6 @@ abbrev pub RadiusIsRoot : Type 0
 RadiusIsRoot = (s : Sheet) (x y : ℤ) → passesChecks s ≡ true → pointInRange x y ≡ true →
     let v = vOf s y in
     pos 0 <ℤ v → Root (x *ℤ x +ℤ v *ℤ v) (radiusAt x v)
-
--- the halving is document 01's loop: it ends where hi - lo ≤ 1, and goes on else with mid in place of lo or of hi (Halving)
-abbrev pub LastLoEnds : Type 0
-LastLoEnds = (n x v lo hi : ℤ) → (hi -ℤ lo) ≤ℤ pos 1 → lastLo n x v lo hi ≡ lo
-
-abbrev pub LastLoGoesOn : Type 0
-LastLoGoesOn = (n x v lo hi : ℤ) → pos 1 <ℤ (hi -ℤ lo) →
-    let mid = middle lo hi in
-    lastLo n x v lo hi ≡ cond (notLeft n x v mid) (lastLo n x v mid hi) (lastLo n x v lo mid)
-
--- a point that does not lie left of lo nor right of hi does not lie left of the last lo, d, nor right of d + 1 (Halving)
-abbrev pub LastLoBetween : Type 0
-LastLoBetween = (n x v lo hi : ℤ) → lo <ℤ hi → notLeft n x v lo ≡ true → notRight n x v hi ≡ true →
-    let d = lastLo n x v lo hi in
-    (lo ≤ℤ d) × (d <ℤ hi) × (notLeft n x v d ≡ true) × (notRight n x v (d +ℤ pos 1) ≡ true)
 
 -- the position of a map point that no other refusal meets is always on the sheet (OwnSheet)
 abbrev pub OnItsOwnSheet : Type 0

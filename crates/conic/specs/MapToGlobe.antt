@@ -1,17 +1,16 @@
--- Document 01, 'From map to globe'.
-use mathlib.Core.Bool.{Bool, true, false, _&&_}
+-- Document 01, 'From map to globe'. What needs of the sheet only n and w is in `cone`: root(x² + v²), left and right of an offset, and the halving.
+use mathlib.Core.Bool.{Bool, _&&_}
 use mathlib.Core.List.{List, [], _∷_, _++_}
-use Prim.Native.Nat.{ℕ, zero, suc}
-use lib.IntN.{ℤ, pos, negℤ, natAbs, _+ℤ_, _-ℤ_, _*ℤ_}
-use lib.Signed.{leZ, ltZ, quotZ}
-use Rattle.arith.specs.Bounds.{Within, isWithin, sizeUpTo}
+use Prim.Native.Nat.{ℕ}
+use lib.IntN.{ℤ, pos, negℤ, _+ℤ_, _-ℤ_}
+use lib.Signed.{ltZ}
+use Rattle.arith.specs.Bounds.{isWithin, sizeUpTo}
 use Rattle.refusal.specs.declared.Refusal.the-variants.{OffSheet, OutOfRange, AnswerOffSheet}
 use Rattle.refusal.specs.Numbers.{Reply, accepted, refused}
 use Rattle.refusal.specs.Rules.{Rule, _else-refuse_, inOrder}
-use Rattle.trig.specs.declared.SineCosine.{SineCosine}
-use Rattle.trig.specs.Trig.{sineOf, cosineOf, rootOf}
+use Rattle.cone.specs.Cone.{radiusAt, sineCosineAt, notLeft, notRight, offsetAt}
 use Rattle.sheet.specs.declared.Sheet.{Sheet}
-use Rattle.sheet.specs.Sheets.{m0, fs, fn, w, n, g, coneAngleOf, sheetRules, shifted, onSheet}
+use Rattle.sheet.specs.Sheets.{m0, fs, fn, w, n, g, sheetRules, shifted, onSheet}
 use Rattle.conic.specs.declared.EdgeValues.{EdgeValues}
 use Rattle.conic.specs.declared.GlobeAnswer.{GlobeAnswer}
 use Rattle.conic.specs.declared.GlobeAnswer.the-variants.{Position, Refused}
@@ -28,30 +27,7 @@ pointInRange x y = sizeUpTo pointLimit x && sizeUpTo pointLimit y
 abbrev pub vOf : Sheet → (y : ℤ) → ℤ
 vOf s y = r0 s -ℤ y
 
--- such a v above 0: r0 is up to 2^28, and y up to 2^29 in size
-abbrev pub IsV : ℤ → Type 0
-IsV v = Within (pos 1) (pos 805306368) v
-
--- r = root(x² + v²)
-unfoldable pub radiusAt : (x v : ℤ) → ℤ
-radiusAt x v = pos (rootOf (natAbs (x *ℤ x +ℤ v *ℤ v)))
-
--- cosine(d) and sine(d) are taken at the t that d gives
-abbrev pub sineAt : (n d : ℤ) → ℤ
-sineAt n d = sineOf (coneAngleOf n d)
-
-abbrev pub cosineAt : (n d : ℤ) → ℤ
-cosineAt n d = cosineOf (coneAngleOf n d)
-
--- the point does not lie left of d: x × cosine(d) ≥ v × sine(d)
-unfoldable pub notLeft : (n x v d : ℤ) → Bool
-notLeft n x v d = leZ (v *ℤ sineAt n d) (x *ℤ cosineAt n d)
-
--- nor right of it: x × cosine(d) ≤ v × sine(d)
-unfoldable pub notRight : (n x v d : ℤ) → Bool
-notRight n x v d = leZ (x *ℤ cosineAt n d) (v *ℤ sineAt n d)
-
--- Off the sheet (11) when v ≤ 0; or r lies outside g - fn to g - fs; or the point lies left of the edge -w, or right of the edge w.
+-- Off the sheet (11) when v ≤ 0; or r = root(x² + v²) lies outside g - fn to g - fs; or the point lies left of the edge -w, or right of the edge w.
 unfoldable pub pointOnSheet : Sheet → (x v : ℤ) → Bool
 pointOnSheet s x v =
     ltZ (pos 0) v
@@ -63,28 +39,7 @@ pointOnSheet s x v =
 abbrev pub latitudeAt : Sheet → (r : ℤ) → ℤ
 latitudeAt s r = g s -ℤ r
 
--- The offset d comes from lo = -w, hi = w: while hi - lo > 1, mid = lo + quotient (hi - lo) / 2, and mid replaces lo if x × cosine(mid) ≥ v × sine(mid), else hi. d is the last lo.
-abbrev pub middle : (lo hi : ℤ) → ℤ
-middle lo hi = lo +ℤ quotZ (hi -ℤ lo) (pos 2)
-
--- the loop, with a bound on its turns (`elim test [ true ↦ a | false ↦ b ]` is a where the test holds, else b)
-unfoldable pub halved : (turns : ℕ) (n x v lo hi : ℤ) → ℤ
-halved zero n x v lo hi = lo
-halved (suc turns) n x v lo hi =
-    let mid = middle lo hi in
-    elim (ltZ (pos 1) (hi -ℤ lo)) [
-      | true ↦ elim (notLeft n x v mid) [ true ↦ halved turns n x v mid hi | false ↦ halved turns n x v lo mid ]
-      | false ↦ lo
-    ]
-
--- hi - lo turns are never too few: the loop has ended by then (Laws: LastLoEnds, LastLoGoesOn)
-unfoldable pub lastLo : (n x v lo hi : ℤ) → ℤ
-lastLo n x v lo hi = halved (natAbs (hi -ℤ lo)) n x v lo hi
-
-abbrev pub offsetAt : (n x v w : ℤ) → ℤ
-offsetAt n x v w = lastLo n x v (negℤ w) w
-
--- Longitude is m0 + d, shifted by 360,000,000 into -180,000,000 up to, not including, 180,000,000.
+-- The offset d is `offsetAt`, from lo = -w and hi = w. Longitude is m0 + d, shifted by 360,000,000 into -180,000,000 up to, not including, 180,000,000.
 abbrev pub longitudeAt : Sheet → (d : ℤ) → ℤ
 longitudeAt s d = shifted (m0 s +ℤ d)
 
@@ -113,8 +68,5 @@ globeReplyOf (Position latitude longitude) = accepted (latitude ∷ longitude �
 globeReplyOf (Refused r) = refused 2 r
 
 -- What depends on the sheet alone: r0, and sine and cosine at both edges.
-abbrev pub sineCosineAt : (n d : ℤ) → SineCosine
-sineCosineAt n d = record { «sine» = sineAt n d; «cosine» = cosineAt n d }
-
 abbrev pub edgeValuesOf : Sheet → EdgeValues
 edgeValuesOf s = record { «origin_radius» = r0 s; «west» = sineCosineAt (n s) (negℤ (w s)); «east» = sineCosineAt (n s) (w s) }

@@ -4,14 +4,14 @@
 // A function whose name ends in _unchecked is not offered to callers, as in trig.
 ghost use mathlib.Core.Path.{_≡_};
 ghost use mathlib.Core.Bool.{true};
-ghost use Prim.Native.Nat.{_≤_};
-ghost use lib.IntN.{pos, _*ℤ_};
-ghost use lib.Signed.{leZ};
+ghost use lib.IntN.{pos};
 ghost use Rattle.arith.specs.Bounds.{Size};
 ghost use Rattle.trig.specs.Trig.{sineLimit};
+ghost use Rattle.cone.specs.Cone.{IsX, IsV, radiusAt};
 ghost use Rattle.sheet.specs.Sheets.{passesChecks, onSheet};
 ghost use Rattle.conic.specs.Conic.{xAt, yAt, xOf, yOf, forwardReply, mapReplyOf};
-ghost use Rattle.conic.specs.MapToGlobe.{pointLimit, IsV, radiusAt, sineCosineAt, edgeValuesOf, pointOnSheet, offsetAt, latitudeAt, longitudeAt, heldReply, inverseReply, globeReplyOf};
+ghost use Rattle.conic.specs.MapToGlobe.{edgeValuesOf, pointOnSheet, latitudeAt, longitudeAt, heldReply, inverseReply, globeReplyOf};
+ghost use Rattle.conic.specs.Values.{inverseValuesOf};
 ghost use Rattle.conic.specs.declared.MapAnswer.the-variants.{Point};
 use refusal::Refusal;
 use sheet::Sheet;
@@ -63,7 +63,7 @@ fn point_of(sheet: Sheet, latitude: i64, longitude: i64) -> MapAnswer
     ensures { λ a. ⌜ a ≡ Point (xOf sheet latitude longitude) (yOf sheet latitude longitude) ⌝ }
 {
     let d = sheet::offset_unchecked(sheet, longitude);
-    let t = sheet::cone_angle_unchecked(sheet.cone_constant, d);
+    let t = cone::cone_angle_unchecked(sheet.cone_constant, d);
     let g = sheet.radius_constant as i64;
     let f0 = sheet.origin_latitude as i64;
     point_at(g - f0, g - latitude, t)
@@ -90,10 +90,16 @@ pub enum GlobeAnswer {
 }
 
 // What map to globe needs that depends on the sheet alone: the radius of the map's origin, and sine and cosine at both edges.
-struct EdgeValues {
-    origin_radius: i64,
-    west: SineCosine,
-    east: SineCosine,
+pub struct EdgeValues {
+    pub origin_radius: i64,
+    pub west: SineCosine,
+    pub east: SineCosine,
+}
+
+// The edge values, and by how much the sine rises at least from an offset to the next: worked out once for many points.
+pub struct InverseValues {
+    pub edges: EdgeValues,
+    pub least_rise: i64,
 }
 
 // From map to globe: the position of a point of the sheet's map. Refused with 4 or 5 for the sheet, then 12 (out of range), then 11 (off
@@ -103,23 +109,55 @@ pub fn inverse(sheet: Sheet, x: i64, y: i64) -> GlobeAnswer
 {
     let verdict = sheet::check(sheet);
     match verdict {
-        Verdict::Good => inverse_with_edges(sheet, edge_values(sheet), x, y),
+        Verdict::Good => inverse_unchecked(sheet, x, y),
         Verdict::Refused(r) => GlobeAnswer::Refused(r),
     }
 }
 
-// The same for a sheet that passes its checks, and its values at the edges.
-fn inverse_with_edges(sheet: Sheet, edges: EdgeValues, x: i64, y: i64) -> GlobeAnswer
+// The same for a sheet that passes its checks; not offered to callers.
+pub fn inverse_unchecked(sheet: Sheet, x: i64, y: i64) -> GlobeAnswer
     requires { ⌜ passesChecks sheet ≡ true ⌝ }
-    requires { ⌜ edges ≡ edgeValuesOf sheet ⌝ }
     ensures { λ r. ⌜ globeReplyOf r ≡ inverseReply sheet x y ⌝ }
 {
+    inverse_by_values_unchecked(sheet, inverse_values_unchecked(sheet), x, y)
+}
+
+// The values of a sheet that passes its checks; not offered to callers.
+pub fn inverse_values_unchecked(sheet: Sheet) -> InverseValues
+    requires { ⌜ passesChecks sheet ≡ true ⌝ }
+    ensures { λ r. ⌜ r ≡ inverseValuesOf sheet ⌝ }
+{
+    let edges = edge_values(sheet);
+    InverseValues {
+        edges: edges,
+        least_rise: cone::least_rise_unchecked(sheet.cone_constant, sheet.half_width),
+    }
+}
+
+// From map to globe by a checked sheet's own values; not offered to callers.
+pub fn inverse_by_values_unchecked(
+    sheet: Sheet,
+    values: InverseValues,
+    x: i64,
+    y: i64,
+) -> GlobeAnswer
+    requires { ⌜ passesChecks sheet ≡ true ⌝ }
+    requires { ⌜ values ≡ inverseValuesOf sheet ⌝ }
+    ensures { λ r. ⌜ globeReplyOf r ≡ inverseReply sheet x y ⌝ }
+{
+    let edges = values.edges;
     if trig::size_up_to(x, POINT_LIMIT) & trig::size_up_to(y, POINT_LIMIT) {
         let v = edges.origin_radius - y;
         if v > 0 {
-            let r = radius(x, v);
+            let r = cone::radius_unchecked(x, v);
             if point_on_sheet(sheet, edges, x, v, r) {
-                let d = halve(sheet.cone_constant, x, v, sheet.half_width);
+                let d = cone::offset_unchecked(
+                    sheet.cone_constant,
+                    x,
+                    v,
+                    sheet.half_width,
+                    values.least_rise,
+                );
                 position_at(sheet, r, d)
             } else {
                 GlobeAnswer::Refused(Refusal::OffSheet)
@@ -132,16 +170,17 @@ fn inverse_with_edges(sheet: Sheet, edges: EdgeValues, x: i64, y: i64) -> GlobeA
     }
 }
 
-// The values at the edges of a sheet that passes its checks.
+// The values at the edges of a sheet that passes its checks. West and east mirror.
 fn edge_values(sheet: Sheet) -> EdgeValues
     requires { ⌜ passesChecks sheet ≡ true ⌝ }
     ensures { λ r. ⌜ r ≡ edgeValuesOf sheet ⌝ }
 {
-    let n = sheet.cone_constant;
-    let w = sheet.half_width as i64;
     let g = sheet.radius_constant as i64;
-    let west = sine_cosine_at(n, -w);
-    let east = sine_cosine_at(n, w);
+    let east = cone::sine_cosine_unchecked(sheet.cone_constant, sheet.half_width as i64);
+    let west = SineCosine {
+        sine: -east.sine,
+        cosine: east.cosine,
+    };
     EdgeValues {
         origin_radius: g - sheet.origin_latitude as i64,
         west: west,
@@ -149,29 +188,11 @@ fn edge_values(sheet: Sheet) -> EdgeValues
     }
 }
 
-// Sine and cosine at an offset from the central meridian.
-fn sine_cosine_at(n: u32, d: i64) -> SineCosine
-    requires { ⌜ n ≤ 1073741824 ⌝ }
-    requires { ⌜ Size (pos 60000000) d ⌝ }
-    ensures { λ r. ⌜ r ≡ sineCosineAt (pos n) d ⌝ }
-{
-    trig::sine_cosine_unchecked(sheet::cone_angle_unchecked(n, d))
-}
-
-// The distance of a map point from the cone's apex, v below it and x beside it.
-fn radius(x: i64, v: i64) -> i64
-    requires { ⌜ Size (pos pointLimit) x ⌝ }
-    requires { ⌜ IsV v ⌝ }
-    ensures { λ r. ⌜ r ≡ radiusAt x v ⌝ }
-{
-    trig::root_unchecked(x * x + v * v)
-}
-
 // Whether a map point, whose radius is r, is on the sheet.
 fn point_on_sheet(sheet: Sheet, edges: EdgeValues, x: i64, v: i64, r: i64) -> bool
     requires { ⌜ passesChecks sheet ≡ true ⌝ }
     requires { ⌜ edges ≡ edgeValuesOf sheet ⌝ }
-    requires { ⌜ Size (pos pointLimit) x ⌝ }
+    requires { ⌜ IsX x ⌝ }
     requires { ⌜ IsV v ⌝ }
     requires { ⌜ r ≡ radiusAt x v ⌝ }
     ensures { λ b. ⌜ b ≡ pointOnSheet sheet x v ⌝ }
@@ -181,51 +202,8 @@ fn point_on_sheet(sheet: Sheet, edges: EdgeValues, x: i64, v: i64, r: i64) -> bo
     let east = edges.east;
     (g - sheet.north_edge as i64 <= r)
         & (r <= g - sheet.south_edge as i64)
-        & not_left(west, x, v)
-        & not_right(east, x, v)
-}
-
-// Whether a map point does not lie left of a direction. (A sine is no larger than its angle, so that sineLimit bounds it too.)
-fn not_left(at: SineCosine, x: i64, v: i64) -> bool
-    requires { ⌜ Size (pos sineLimit) (at .sine) ⌝ }
-    requires { ⌜ Size (pos 1073741824) (at .cosine) ⌝ }
-    requires { ⌜ Size (pos pointLimit) x ⌝ }
-    requires { ⌜ IsV v ⌝ }
-    ensures { λ b. ⌜ b ≡ leZ (v *ℤ at .sine) (x *ℤ at .cosine) ⌝ }
-{
-    x * at.cosine >= v * at.sine
-}
-
-// Whether a map point does not lie right of a direction.
-fn not_right(at: SineCosine, x: i64, v: i64) -> bool
-    requires { ⌜ Size (pos sineLimit) (at .sine) ⌝ }
-    requires { ⌜ Size (pos 1073741824) (at .cosine) ⌝ }
-    requires { ⌜ Size (pos pointLimit) x ⌝ }
-    requires { ⌜ IsV v ⌝ }
-    ensures { λ b. ⌜ b ≡ leZ (x *ℤ at .cosine) (v *ℤ at .sine) ⌝ }
-{
-    x * at.cosine <= v * at.sine
-}
-
-// The offset of a map point from the central meridian, by halving.
-fn halve(n: u32, x: i64, v: i64, w: u32) -> i64
-    requires { ⌜ n ≤ 1073741824 ⌝ }
-    requires { ⌜ Size (pos pointLimit) x ⌝ }
-    requires { ⌜ IsV v ⌝ }
-    requires { ⌜ w ≤ 60000000 ⌝ }
-    ensures { λ d. ⌜ d ≡ offsetAt (pos n) x v (pos w) ⌝ }
-{
-    let mut hi = w as i64;
-    let mut lo = -hi;
-    while hi - lo > 1 {
-        let mid = lo + (hi - lo) / 2;
-        if not_left(sine_cosine_at(n, mid), x, v) {
-            lo = mid;
-        } else {
-            hi = mid;
-        }
-    }
-    lo
+        & cone::not_left_unchecked(west, x, v)
+        & cone::not_right_unchecked(east, x, v)
 }
 
 // The position at the radius r and the offset d; before it is handed out it is held against the sheet's own edges.

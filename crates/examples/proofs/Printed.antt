@@ -6,8 +6,9 @@ use Prim.Native.Nat.{ℕ}
 use native.Mathlib.Omega.{arith}
 use lib.Dec.{eqb}
 use Rattle.trig.specs.Trig.{angleOf, squareOf, seriesOf, sineOf, cosineOf, rootBits, rootBelow, rounded, rootOf}
-use Rattle.sheet.specs.Sheets.{withinLimits, coneAngleOf, coneAgrees, radiusAgrees, constantsAgree, sheetRules, shifted, offsetOf, onSheet}
-use Rattle.conic.specs.MapToGlobe.{radiusAt, notLeft, notRight, pointOnSheet, halved, lastLo, latitudeOf, longitudeOf, pointRules}
+use Rattle.cone.specs.Cone.{coneAngleOf, radiusAt, notLeft, notRight, halved, lastLo}
+use Rattle.sheet.specs.Sheets.{withinLimits, coneAgrees, radiusAgrees, constantsAgree, sheetRules, shifted, offsetOf, onSheet}
+use Rattle.conic.specs.MapToGlobe.{pointOnSheet, latitudeOf, longitudeOf, pointRules}
 use Rattle.nearest.specs.Taps.{squared, squaredDistance, isBefore, better, bestOf, withinReachFrom, withinReach, nearestReply}
 use Rattle.atlas_file.specs.Steps.{mostPlaces, refusedStep, stepOf}
 use Rattle.atlas_file.specs.Reading.{Reading, startOf, readFrom, readOf}

@@ -5,7 +5,8 @@ use Prim.Native.Nat.{ℕ, _≤_}
 use native.Mathlib.Omega.{arith}
 use Rattle.trig.specs.Trig.{angleOf, squareOf, seriesOf, sineOf, cosineOf}
 use Rattle.sheet.specs.Samples.{sheetA}
-use Rattle.sheet.specs.Sheets.{withinLimits, coneAngleOf, coneAgrees, radiusAgrees, constantsAgree, sheetRules, shifted, offsetOf, onSheet}
+use Rattle.cone.specs.Cone.{coneAngleOf}
+use Rattle.sheet.specs.Sheets.{withinLimits, coneAgrees, radiusAgrees, constantsAgree, sheetRules, shifted, offsetOf, onSheet}
 use Rattle.conic.specs.Conic.{positionRules, tOf, xAt, yAt, xOf, yOf}
 use Rattle.little_endian.specs.Numbers.{signed, unsigned, i32At, u32Bytes, numbersBytes}
 use Rattle.place.specs.Names.{isName}

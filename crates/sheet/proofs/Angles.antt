@@ -9,18 +9,14 @@ use Rattle.arith.proofs.Size.{size-wider}
 use Rattle.arith.proofs.Fits.{Range, within, via}
 use Rattle.trig.specs.Trig.{ONE, angleOf, sineOf, cosineOf, sineLimit}
 use Rattle.trig.proofs.Sizes.{angle-size, sine-within, cosine-size}
-use Rattle.sheet.specs.Sheets.{coneAngleOf}
-use Rattle.sheet.proofs.ConeAngles.{cone-angle-size}
+use Rattle.cone.specs.Cone.{coneAngleOf}
+use Rattle.cone.proofs.ConeAngles.{cone-angle-size}
 
 pub parallel-angle-size : (f : ℤ) → Size (pos 80000000) f → Size (pos sineLimit) (angleOf f)
 unfolding angleOf
 parallel-angle-size f h = size-wider (leZ-yes tt) (angle-size (pos 80000000) f h)
 
 -- a radius is up to 2^28 units
-pub radius-angle-size : (a : ℤ) → Size (pos 268435456) a → Size (pos 5030569068) (angleOf a)
-unfolding angleOf
-radius-angle-size a h = angle-size (pos 268435456) a h
-
 pub radius-cone-angle-size : (n : ℕ) (a : ℤ) → n ≤ 1073741824 → Size (pos 268435456) a → Size (pos 5030569068) (coneAngleOf (pos n) a)
 unfolding angleOf
 radius-cone-angle-size n a k h = let n-size : Size ONE (pos n) = omega linear in cone-angle-size (pos n) (pos 268435456) a n-size h

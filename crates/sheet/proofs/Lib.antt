@@ -4,6 +4,5 @@ pub mod Limits
 pub mod Shifted
 pub mod Positions
 pub mod Meridians
-pub mod ConeAngles
 pub mod Fields
 pub mod Angles

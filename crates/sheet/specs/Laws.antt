@@ -10,11 +10,11 @@ use Rattle.arith.specs.Bounds.{Within, Size}
 use Rattle.refusal.specs.declared.Refusal.the-variants.{SheetLimit, SheetConstants}
 use Rattle.refusal.specs.Numbers.{Reply, refused}
 use Rattle.refusal.specs.Rules.{Rule, inOrder}
-use Rattle.trig.specs.Trig.{ONE, angleOf}
+use Rattle.trig.specs.Trig.{ONE}
 use Rattle.sheet.specs.declared.Sheet.{Sheet}
 use Rattle.sheet.specs.declared.Verdict.{Verdict}
 use Rattle.sheet.specs.declared.Verdict.the-variants.{Good}
-use Rattle.sheet.specs.Sheets.{f1, f2, f0, m0, fs, fn, w, n, g, withinLimits, coneAngleOf, sheetRules, passesChecks, checkReply, replyOf, shifted, offsetOf, onSheet}
+use Rattle.sheet.specs.Sheets.{f1, f2, f0, m0, fs, fn, w, n, g, withinLimits, sheetRules, passesChecks, checkReply, replyOf, shifted, offsetOf, onSheet}
 
 -- two verdicts never share a number, so that the contract fixes the verdict (Answers)
 abbrev pub DistinctReplies : Type 0
@@ -116,15 +116,3 @@ mirrored s longitude = shifted (pos 2 *ℤ m0 s -ℤ longitude)
 abbrev pub MirroredOffset : Type 0
 MirroredOffset = (s : Sheet) (latitude longitude : ℤ) → withinLimits s ≡ true → onSheet s latitude longitude ≡ true →
     (offsetOf s (mirrored s longitude) ≡ negℤ (offsetOf s longitude)) × (onSheet s latitude (mirrored s longitude) ≡ true)
-
--- west and east mirror on the cone (ConeAngles)
-abbrev pub ConeAngleOdd : Type 0
-ConeAngleOdd = (n a : ℤ) → coneAngleOf n (negℤ a) ≡ negℤ (coneAngleOf n a)
-
--- an angle on the cone is no larger than that on the globe (ConeAngles)
-abbrev pub ConeAngleSize : Type 0
-ConeAngleSize = (n m a : ℤ) → Size ONE n → Size m a → Size (angleOf m) (coneAngleOf n a)
-
--- where 0 ≤ n ≤ ONE, it changes by at most 19 from an offset to the next (ConeAngles)
-abbrev pub ConeAngleStep : Type 0
-ConeAngleStep = (n d : ℤ) → Within (pos 0) ONE n → Size (pos 19) (coneAngleOf n (d +ℤ pos 1) -ℤ coneAngleOf n d)

@@ -1,14 +1,15 @@
 -- Document 01, 'Units and the sheet'; and of 'From globe to map' the offset from the central meridian and what is on the sheet.
--- A unit is a millionth of a degree of arc; map coordinates are in the same unit. `leZ` and `ltZ` are the tests of ≤ and <, `quotZ` drops the fraction toward zero.
+-- A unit is a millionth of a degree of arc; map coordinates are in the same unit. `leZ` and `ltZ` are the tests of ≤ and <; `coneAngleOf n a` is the quotient n × angle(a) / ONE.
 use mathlib.Core.Bool.{Bool, cond, _&&_}
 use mathlib.Core.List.{List, [], _∷_}
-use lib.IntN.{ℤ, pos, negℤ, _+ℤ_, _-ℤ_, _*ℤ_}
-use lib.Signed.{leZ, ltZ, quotZ}
+use lib.IntN.{ℤ, pos, negℤ, _+ℤ_, _-ℤ_}
+use lib.Signed.{leZ, ltZ}
 use Rattle.arith.specs.Bounds.{isWithin, sizeUpTo}
 use Rattle.refusal.specs.declared.Refusal.the-variants.{SheetLimit, SheetConstants}
 use Rattle.refusal.specs.Numbers.{Reply, accepted, refused}
 use Rattle.refusal.specs.Rules.{Rule, _else-refuse_, inOrder, allHold}
 use Rattle.trig.specs.Trig.{ONE, angleOf, sineOf, cosineOf}
+use Rattle.cone.specs.Cone.{coneAngleOf}
 use Rattle.sheet.specs.declared.Sheet.{Sheet}
 use Rattle.sheet.specs.declared.Verdict.{Verdict}
 use Rattle.sheet.specs.declared.Verdict.the-variants.{Good, Refused}
@@ -67,10 +68,6 @@ withinLimits s =
     && (leZ (pos 0) (fs s) && leZ (fs s) (f0 s) && leZ (f0 s) (fn s) && leZ (fn s) (pos 90000000))
     && (leZ (negℤ (pos 180000000)) (m0 s) && ltZ (m0 s) (pos 180000000) && leZ (pos 1) (w s) && leZ (w s) (pos 60000000))
     && (leZ (pos 134217728) (n s) && leZ (n s) ONE && leZ (pos 1000000) (g s -ℤ fn s) && leZ (g s -ℤ fs s) (pos 268435456))
-
--- the quotient n × angle(a) / ONE: the checks take it of f2 - f1 and g - f1, globe to map of d, map to globe of the edges and of each mid, where it is the angle on the cone
-unfoldable pub coneAngleOf : (n a : ℤ) → ℤ
-coneAngleOf n a = quotZ (n *ℤ angleOf a) ONE
 
 -- a differs from b by at most 32
 abbrev pub agrees : (a b : ℤ) → Bool

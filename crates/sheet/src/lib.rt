@@ -8,7 +8,7 @@ ghost use Prim.Native.Nat.{_≤_};
 ghost use lib.IntN.{pos};
 ghost use Rattle.arith.specs.Bounds.{Size};
 ghost use Rattle.trig.specs.Trig.{angleOf, cosineOf};
-ghost use Rattle.sheet.specs.Sheets.{blankSheet, withinLimits, coneAngleOf, coneAgrees, radiusAgrees, constantsAgree, checkReply, replyOf, shifted, offsetOf, onSheet};
+ghost use Rattle.sheet.specs.Sheets.{blankSheet, withinLimits, coneAgrees, radiusAgrees, constantsAgree, checkReply, replyOf, shifted, offsetOf, onSheet};
 use refusal::Refusal;
 use trig::ONE;
 
@@ -117,7 +117,7 @@ fn cone_agrees(n: u32, f1: i64, f2: i64) -> bool
 {
     if f1 < f2 {
         let fall = cosine_at(f1) - cosine_at(f2);
-        trig::size_up_to(cone_angle_unchecked(n, f2 - f1) - fall, TOLERANCE)
+        trig::size_up_to(cone::cone_angle_unchecked(n, f2 - f1) - fall, TOLERANCE)
     } else {
         let sine = trig::sine_unchecked(trig::angle_unchecked(f1));
         trig::size_up_to(n as i64 - sine, TOLERANCE)
@@ -131,7 +131,7 @@ fn radius_agrees(n: u32, f1: i64, r1: i64) -> bool
     requires { ⌜ Size (pos 268435456) r1 ⌝ }
     ensures { λ r. ⌜ r ≡ radiusAgrees (pos n) f1 r1 ⌝ }
 {
-    trig::size_up_to(cone_angle_unchecked(n, r1) - cosine_at(f1), TOLERANCE)
+    trig::size_up_to(cone::cone_angle_unchecked(n, r1) - cosine_at(f1), TOLERANCE)
 }
 
 // The cosine of a parallel.
@@ -140,15 +140,6 @@ fn cosine_at(f: i64) -> i64
     ensures { λ r. ⌜ r ≡ cosineOf (angleOf f) ⌝ }
 {
     trig::cosine_unchecked(trig::angle_unchecked(f))
-}
-
-// An angle of a units times n, radians in ONEths: of an offset, the angle on the cone. Not offered to callers.
-pub fn cone_angle_unchecked(n: u32, a: i64) -> i64
-    requires { ⌜ n ≤ 1073741824 ⌝ }
-    requires { ⌜ Size (pos 268435456) a ⌝ }
-    ensures { λ r. ⌜ r ≡ coneAngleOf (pos n) a ⌝ }
-{
-    n as i64 * trig::angle_unchecked(a) / ONE
 }
 
 // A difference of two longitudes, or a longitude plus an offset, shifted once by 360 degrees where it is not from -180 up to, not

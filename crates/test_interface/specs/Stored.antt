@@ -1,9 +1,13 @@
 -- What the functions give and store, by the replies of the engine's own contracts.
 use Prim.Native.Nat.{ℕ}
-use mathlib.Core.Bool.{Bool, cond}
+use mathlib.Core.Bool.{Bool, _&&_, cond}
 use mathlib.Core.List.{List, [], _∷_, map}
+use lib.Dec.{leb}
 use lib.IntN.{ℤ, pos}
+use Rattle.arith.specs.Bounds.{isWithin, sizeUpTo}
 use Rattle.refusal.specs.Numbers.{Reply}
+use Rattle.trig.specs.Trig.{offered}
+use Rattle.cone.specs.Cone.{offsetAt}
 use Rattle.sheet.specs.declared.Sheet.{Sheet}
 use Rattle.sheet.specs.Sheets.{f1, f2, f0, m0, fs, fn, w, n, g}
 use Rattle.place.specs.declared.Place.{Place}
@@ -48,6 +52,14 @@ reply number values = record { number = number; values = values }
 -- values that are stored unsigned
 abbrev pub wholes : List ℕ → List ℤ
 wholes values = map pos values
+
+-- the offset of a map point is answered for n up to ONE, w from 1 unit to 60 degrees, x and v as cone's IsX and IsV have them
+unfoldable pub offsetTaken : (n : ℕ) (x v : ℤ) (w : ℕ) → Bool
+offsetTaken n x v w = (leb n 1073741824 && (leb 1 w && leb w 60000000)) && (sizeUpTo 536870912 x && isWithin (pos 1) (pos 805306368) v)
+
+-- the offset by document 01's halving, 12 outside
+abbrev pub offsetReply : (n : ℕ) (x v : ℤ) (w : ℕ) → Reply
+offsetReply n x v w = offered (offsetTaken n x v w) (offsetAt (pos n) x v (pos w))
 
 -- What is given and stored of a file: the number; the offset and the count; the sheet's numbers.
 pub record FileOut : Type 0 where

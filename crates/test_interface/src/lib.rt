@@ -6,7 +6,9 @@
 // Out arrays are overwritten in full, with zeros where there is no value.
 ghost use mathlib.Core.Path.{_≡_};
 ghost use mathlib.Core.List.{[]};
+ghost use lib.IntN.{pos};
 ghost use lib.ListN.{length};
+ghost use Rattle.arith.specs.Bounds.{Size};
 ghost use Rattle.refusal.specs.Numbers.{numberOf};
 ghost use Rattle.trig.specs.Trig.{replyOf, angleReply, sineReply, cosineReply, rootReply};
 ghost use Rattle.sheet.specs.Sheets as sheets;
@@ -20,7 +22,7 @@ ghost use Rattle.atlas_file.specs.Writing.{writeReply};
 ghost use Rattle.atlas.specs.Tables.{tableAfter};
 ghost use Rattle.atlas.specs.Buffers.{writeReplyOf, bufferAfter};
 ghost use Rattle.lookup.specs.Lookups.{lookupReplyOf, placeAtReply, nearestPlaceReply};
-ghost use Rattle.test_interface.specs.Stored.{sheetWith, sheetNumbers, stateWith, stateNumbers, placeNumbers, reply, wholes, fileOut, fileOutOf, lookupOut, lookupOutOf, stepOut, stepOutOf};
+ghost use Rattle.test_interface.specs.Stored.{sheetWith, sheetNumbers, stateWith, stateNumbers, placeNumbers, reply, wholes, fileOut, fileOutOf, lookupOut, lookupOutOf, stepOut, stepOutOf, offsetTaken, offsetReply};
 use atlas::WriteAnswer;
 use atlas_file::FileAnswer;
 use atlas_file::Found;
@@ -63,6 +65,22 @@ pub extern "C" fn melgoweth_test_root(q: i64, out: &mut [i64; 1]) -> u64
     ensures { λ r. ⌜ reply r (now (out .exit)) ≡ rootReply q ⌝ }
 {
     store_value(trig::root(q), out)
+}
+
+// out: the offset of a map point, by a guess that is tested or by the halving.
+#[no_mangle]
+pub extern "C" fn melgoweth_test_offset(n: u32, x: i64, v: i64, w: u32, out: &mut [i64; 1]) -> u64
+    ensures { λ r. ⌜ reply r (now (out .exit)) ≡ offsetReply n x v w ⌝ }
+{
+    store_value(offset(n, x, v, w), out)
+}
+
+// The guess of the offset alone, to count how often it settles the offset. No more than its size is known of a guess: no answer rests on it.
+#[no_mangle]
+pub extern "C" fn melgoweth_test_guess_offset(n: u32, x: i32, v: i32) -> i64
+    ensures { λ r. ⌜ Size (pos 4503599627370496) r ⌝ }
+{
+    guess::offset(n, x, v)
 }
 
 #[no_mangle]
@@ -314,6 +332,27 @@ pub extern "C" fn melgoweth_test_nearest_place(
         place,
         name,
     )
+}
+
+// The offset of a map point where n, x, v and w are in the ranges that cone::offset_unchecked asks for, 12 outside.
+fn offset(n: u32, x: i64, v: i64, w: u32) -> Answer
+    ensures { λ r. ⌜ replyOf r ≡ offsetReply n x v w ⌝ }
+{
+    if offset_taken(n, x, v, w) {
+        let rise = cone::least_rise_unchecked(n, w);
+        Answer::Value(cone::offset_unchecked(n, x, v, w, rise))
+    } else {
+        Answer::Refused(Refusal::OutOfRange)
+    }
+}
+
+// Whether they are in these ranges.
+fn offset_taken(n: u32, x: i64, v: i64, w: u32) -> bool
+    ensures { λ r. ⌜ r ≡ offsetTaken n x v w ⌝ }
+{
+    let cone = (n <= 1073741824) & ((1 <= w) & (w <= 60000000));
+    let point = ((-536870912 <= x) & (x <= 536870912)) & ((1 <= v) & (v <= 805306368));
+    cone & point
 }
 
 fn number(r: Refusal) -> u64

@@ -1,5 +1,5 @@
 -- The root from below is the largest whole number whose square is at most q; rounded, it is the one whole number between its two squares. Assumes nothing.
-use mathlib.Core.Path.{_≡_}
+use mathlib.Core.Path.{_≡_, sym, subst}
 use mathlib.Core.List.{[], _∷_}
 use mathlib.Core.Logic.{⊎-elim}
 use Prim.Native.Nat.{ℕ, zero, suc, _+_, _*_, _-_, _^_, _≤_, _<_}
@@ -7,14 +7,16 @@ use native.Mathlib.Nat.{add-assoc, two-pow-succ, mul-le-mul, lt-of-not-le, le-of
 use native.Mathlib.Omega.{arith}
 use borrow.Author.Tests.{leb-true, leb-false, ltb-true, ltb-false}
 use lib.Dec.{leb, ltb}
-use lib.IntN.{ℤ, pos, _+ℤ_, _*ℤ_}
+use lib.IntN.{ℤ, pos, natAbs, _+ℤ_, _-ℤ_, _*ℤ_}
 use lib.Signed.{_≤ℤ_, _<ℤ_, clashℤ}
 use Rattle.arith.proofs.Choose.{choose}
 use Rattle.arith.proofs.Quote.{ring!, quote}
 use Rattle.arith.proofs.Parts.{linear}
-use Rattle.arith.proofs.Order.{<ℤ→≤ℤ, ≤ℤ-antisymm, <ℤ-total}
+use Rattle.arith.proofs.Order.{<ℤ→≤ℤ, ≤ℤ-antisymm, <ℤ-total, abs-parts}
 use Rattle.arith.proofs.Cert.{_⊞_, _⊠_, _·_, num, gap, gap<, le-by, lt-by, lt-by*}
-use Rattle.trig.specs.Trig.{Root, rootBits, rootBelow, rounded, rootOf}
+use Rattle.arith.specs.Bounds.{Within}
+use Rattle.arith.proofs.Fits.{cast-is, within}
+use Rattle.trig.specs.Trig.{Root, rootBits, rootBelow, rounded, rootOf, rootLimit}
 use Rattle.trig.specs.Laws.{IsRootBelow, IsRoot}
 
 -- ---- the root from below: k bits are still to come
@@ -82,3 +84,13 @@ unfolding rootOf
 is-root q one h =
     let r = rounded-root q (rootBelow q) one (is-root-below q h) in
     (r, λ s k. one-root k r)
+
+-- s is the root where -s < q - s² ≤ s
+pub root-by-off : (q s : ℤ) → Within (pos 1) (pos rootLimit) q → (pos 0 -ℤ s) <ℤ (q -ℤ s *ℤ s) → (q -ℤ s *ℤ s) ≤ℤ s → s ≡ pos (rootOf (natAbs q))
+root-by-off q s range low high =
+    let r : Root q s = record {
+      low = le-by (4 · gap< low ⊞ num 3) (ring! (q ∷ s ∷ []) (search quote depth 40) tt);
+      high = lt-by (4 · gap high) (ring! (q ∷ s ∷ []) (search quote depth 40) tt);
+    } in
+    let a = abs-parts q in
+    is-root (natAbs q) (omega (linear, range .low, a)) (omega (linear, range .high, a)) .1 s (subst (λ z. Root z s) (sym (cast-is (within range) tt)) r)

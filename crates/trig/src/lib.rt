@@ -171,8 +171,23 @@ pub fn root(q: i64) -> Answer
     }
 }
 
-// The same of a number in range; not offered to callers.
+// The same of a number in range; not offered to callers. A guess s is the root if -s < q - s² ≤ s; otherwise the root is found a bit at a time.
 pub fn root_unchecked(q: i64) -> i64
+    requires { ⌜ Within (pos 1) (pos rootLimit) q ⌝ }
+    ensures { λ r. ⌜ r ≡ pos (rootOf (natAbs q)) ⌝ }
+{
+    let near = guess::root(q as u64);
+    if (1 <= near) & (near <= ONE) {
+        let off = q - near * near;
+        if (-near < off) & (off <= near) {
+            return near;
+        }
+    }
+    root_by_bits(q)
+}
+
+// The same by the root from below, rounded.
+fn root_by_bits(q: i64) -> i64
     requires { ⌜ Within (pos 1) (pos rootLimit) q ⌝ }
     ensures { λ r. ⌜ r ≡ pos (rootOf (natAbs q)) ⌝ }
 {

@@ -74,7 +74,7 @@ pub const A: Sheet = Sheet {
     g: 129_239_201,
 };
 
-const LEAST_N: i128 = 134_217_728;
+pub const LEAST_N: i128 = 134_217_728;
 
 /// Units of radius in one radian.
 const RADIAN: f64 = 180_000_000.0 / PI;
@@ -139,6 +139,11 @@ fn candidate(random: &mut Random) -> Sheet {
         _ => random.range(nominal - slack, nominal + slack),
     }
     .clamp(LEAST_N, ONE);
+    candidate_on(random, f1, f2, n)
+}
+
+/// A sheet with these parallels and this cone constant; it may break a limit.
+fn candidate_on(random: &mut Random, f1: i128, f2: i128, n: i128) -> Sheet {
     let g = snyder_g(f1, n)
         + match random.index(3) {
             0 => 0,
@@ -191,6 +196,18 @@ fn candidate(random: &mut Random) -> Sheet {
 pub fn good_sheet(random: &mut Random) -> Sheet {
     loop {
         let s = candidate(random);
+        if model::check(&s).is_ok() {
+            return s;
+        }
+    }
+}
+
+/// A sheet that passes the sheet checks with this cone constant. Its parallels
+/// are so near each other that they agree with any.
+pub fn good_sheet_with(random: &mut Random, n: i128) -> Sheet {
+    loop {
+        let f1 = random.range(5_000_000, 79_999_999);
+        let s = candidate_on(random, f1, f1 + 1, n);
         if model::check(&s).is_ok() {
             return s;
         }

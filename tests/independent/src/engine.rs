@@ -44,6 +44,7 @@ extern "C" {
     fn melgoweth_test_sine(t: i64, out: *mut i64) -> u64;
     fn melgoweth_test_cosine(t: i64, out: *mut i64) -> u64;
     fn melgoweth_test_root(q: i64, out: *mut i64) -> u64;
+    fn melgoweth_test_offset(n: u32, x: i64, v: i64, w: u32, out: *mut i64) -> u64;
     fn melgoweth_test_read(
         bytes: *const u8,
         length: usize,
@@ -137,6 +138,17 @@ pub const STEPS: [(&str, Step); 4] = [
 pub fn one_number(step: Step, number: i64) -> (u64, i64) {
     let mut out = [RUBBISH_I];
     let refusal = unsafe { step(number, out.as_mut_ptr()) };
+    (refusal, out[0])
+}
+
+pub fn root(q: i64) -> (u64, i64) {
+    one_number(melgoweth_test_root, q)
+}
+
+/// The offset of a map point.
+pub fn offset(n: u32, x: i64, v: i64, w: u32) -> (u64, i64) {
+    let mut out = [RUBBISH_I];
+    let refusal = unsafe { melgoweth_test_offset(n, x, v, w, out.as_mut_ptr()) };
     (refusal, out[0])
 }
 

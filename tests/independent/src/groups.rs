@@ -9,7 +9,7 @@ use crate::tally::{Features, Group, Outcome, Tally};
 /// How much was compared.
 pub type Compared = Result<u64, String>;
 
-fn narrow(number: i128) -> i64 {
+pub fn narrow(number: i128) -> i64 {
     i64::try_from(number).expect("a number of 64 bits")
 }
 
@@ -18,7 +18,7 @@ fn narrowed<const N: usize>(numbers: [i128; N]) -> [i64; N] {
 }
 
 /// An answer of two numbers as the interface gives it.
-fn pair(answer: Answer<[i128; 2]>) -> (u64, [i64; 2]) {
+pub fn pair(answer: Answer<[i128; 2]>) -> (u64, [i64; 2]) {
     match answer {
         Ok(numbers) => (0, narrowed(numbers)),
         Err(number) => (number, [0, 0]),

@@ -10,6 +10,7 @@ mod engine;
 mod exact;
 mod groups;
 mod model;
+mod offsets;
 mod programs;
 mod tally;
 
@@ -35,6 +36,9 @@ fn compare_all(programs: Option<[PathBuf; 2]>) -> groups::Compared {
         }
         None => println!("9 lister, 10 tap: left out"),
     }
+    total += offsets::offsets()?;
+    total += offsets::map_to_globe()?;
+    total += offsets::roots()?;
     Ok(total)
 }
 

@@ -179,8 +179,8 @@ pub fn on_sheet(s: &Sheet, latitude: i128, longitude: i128) -> bool {
 }
 
 /// The angle at the apex that the offset d gives.
-fn t_of(s: &Sheet, d: i128) -> i128 {
-    s.n * angle(d) / ONE
+pub fn t_of(n: i128, d: i128) -> i128 {
+    n * angle(d) / ONE
 }
 
 /// x, y of a latitude and longitude.
@@ -192,7 +192,7 @@ pub fn forward(s: &Sheet, latitude: i128, longitude: i128) -> Answer<[i128; 2]> 
     if !on_sheet(s, latitude, longitude) {
         return Err(11);
     }
-    let t = t_of(s, offset(s, longitude));
+    let t = t_of(s.n, offset(s, longitude));
     let r = s.g - latitude;
     let r0 = s.g - s.f0;
     Ok([r * sine(t) / ONE, r0 - r * cosine(t) / ONE])
@@ -201,6 +201,27 @@ pub fn forward(s: &Sheet, latitude: i128, longitude: i128) -> Answer<[i128; 2]> 
 // ---- From map to globe
 
 pub const MAP_LIMIT: i128 = 536_870_912;
+
+/// x × cosine(d) and v × sine(d).
+pub fn sides(n: i128, x: i128, v: i128, d: i128) -> (i128, i128) {
+    let t = t_of(n, d);
+    (x * cosine(t), v * sine(t))
+}
+
+/// The offset d of a map point: the last lo.
+pub fn offset_of_point(n: i128, x: i128, v: i128, w: i128) -> i128 {
+    let (mut lo, mut hi) = (-w, w);
+    while hi - lo > 1 {
+        let mid = lo + (hi - lo) / 2;
+        let (at_point, at_mid) = sides(n, x, v, mid);
+        if at_point >= at_mid {
+            lo = mid;
+        } else {
+            hi = mid;
+        }
+    }
+    lo
+}
 
 /// Latitude and longitude of a map point.
 pub fn inverse(s: &Sheet, x: i128, y: i128) -> Answer<[i128; 2]> {
@@ -217,28 +238,14 @@ pub fn inverse(s: &Sheet, x: i128, y: i128) -> Answer<[i128; 2]> {
     if r < s.g - s.fn_ || r > s.g - s.fs {
         return Err(11);
     }
-    let sides = |d: i128| {
-        let t = t_of(s, d);
-        (x * cosine(t), v * sine(t))
-    };
-    let (left, left_edge) = sides(-s.w);
-    let (right, right_edge) = sides(s.w);
+    let (left, left_edge) = sides(s.n, x, v, -s.w);
+    let (right, right_edge) = sides(s.n, x, v, s.w);
     if left < left_edge || right > right_edge {
         return Err(11);
     }
 
     let latitude = s.g - r;
-    let (mut lo, mut hi) = (-s.w, s.w);
-    while hi - lo > 1 {
-        let mid = lo + (hi - lo) / 2;
-        let (at_point, at_mid) = sides(mid);
-        if at_point >= at_mid {
-            lo = mid;
-        } else {
-            hi = mid;
-        }
-    }
-    let longitude = shifted(s.m0 + lo);
+    let longitude = shifted(s.m0 + offset_of_point(s.n, x, v, s.w));
     if !on_sheet(s, latitude, longitude) {
         return Err(15);
     }

@@ -1,32 +1,23 @@
 -- `atlas_c::forward_each` meets its contract. The loop's invariant: the answers to the first k positions are set, and the rest is as it was. Assumes nothing.
-use mathlib.Core.Path.{_≡_, refl, sym, ap, _∙_}
-use mathlib.Core.List.{List, _++_}
-use Prim.Native.Nat.{_+_, _-_, _*_, _≤_}
+use mathlib.Core.Path.{_≡_}
+use Prim.Native.Nat.{_-_, _≤_}
 use native.Mathlib.Omega.{arith}
 use borrow.Author.Needs.{needs}
-use borrow.Rule.Slice.PartMut.{same-len-mid}
-use denote.Ref.{now}
 use mir.Syntax.{w64}
-use lib.IntN.{ℤ, pos}
-use lib.ListN.{length, getD, take, drop, length-append, length-take, length-drop}
 use Rattle.arith.proofs.Fits.{back}
 use Rattle.conic.specs.Conic.{forwardReply}
-use Rattle.atlas.proofs.BufferParts.{one-part}
-use Rattle.atlas_c.specs.Given.{eachAnswerOf, eachAnswers}
-use Rattle.atlas_c.proofs.Answers.{each-more}
+use Rattle.atlas_c.proofs.Answers.{Filled, none-filled, one-filled}
 use Rattle.atlas_c.proofs.forward_each.Statement.{statement}
 use Rattle.atlas_c.proofs.forward_each.Tie as tie
 
 abbrev Inv-loop : tie.InvT-loop
-Inv-loop sheet positions count answers₀ k₀ answers k =
-    (k ≤ count) × (length (eachAnswers sheet positions k) ≡ 3 * k) × (length answers ≡ length answers₀) × (answers ≡ eachAnswers sheet positions k ++ drop (3 * k) answers₀)
+Inv-loop sheet positions count answers₀ k₀ answers k = (k ≤ count) × Filled (forwardReply sheet) positions answers₀ k answers
 
 abbrev μ-loop : tie.MeasureT-loop
 μ-loop sheet positions count answers₀ k₀ answers k = count - k
 
 loop-holds : tie.Need-loop-holds Inv-loop μ-loop
-unfolding eachAnswers
-loop-holds c = (search needs, refl, refl, refl)
+loop-holds c = (search needs, none-filled)
 
 mul-forward-unchecked : tie.Need-mul-forward-unchecked Inv-loop μ-loop
 mul-forward-unchecked c = search needs
@@ -60,20 +51,20 @@ mul-at c = search needs
 add-end : tie.Need-add-end Inv-loop μ-loop
 add-end c = search needs
 
-mul-set-answer : tie.Need-mul-set-answer Inv-loop μ-loop
-mul-set-answer c = search needs
+mul-set-map-answer : tie.Need-mul-set-map-answer Inv-loop μ-loop
+mul-set-map-answer c = search needs
 
-sub-set-answer : tie.Need-sub-set-answer Inv-loop μ-loop
-sub-set-answer c = search needs
+sub-set-map-answer : tie.Need-sub-set-map-answer Inv-loop μ-loop
+sub-set-map-answer c = search needs
 
-part-set-answer-start : tie.Need-part-set-answer-start Inv-loop μ-loop
-part-set-answer-start c = search needs
+part-set-map-answer-start : tie.Need-part-set-map-answer-start Inv-loop μ-loop
+part-set-map-answer-start c = search needs
 
-part-set-answer-end : tie.Need-part-set-answer-end Inv-loop μ-loop
-part-set-answer-end c = search needs
+part-set-map-answer-end : tie.Need-part-set-map-answer-end Inv-loop μ-loop
+part-set-map-answer-end c = search needs
 
-set-answer-requires : tie.Need-set-answer-requires Inv-loop μ-loop
-set-answer-requires c κs = search needs
+set-map-answer-requires : tie.Need-set-map-answer-requires Inv-loop μ-loop
+set-map-answer-requires c κs = search needs
 
 add-k : tie.Need-add-k Inv-loop μ-loop
 add-k c = search needs
@@ -83,23 +74,13 @@ loop-less c = search needs
 
 loop-again : tie.Need-loop-again Inv-loop μ-loop
 loop-again c =
-    let s = c .before .before .before .before .before .before .before .before in
     let l = c .before .before .before .before .before .before .before .loop in
-    let w = c .before .set-answer in
-    let as-lent : length (w .last .0) ≡ length (take (3 * l .k + 3 - 3 * l .k) (drop (3 * l .k) (l .answers))) = w .kept .0 in
-    let long : length (w .last .0) ≡ 3 = as-lent ∙ simp (length-take, length-drop) (omega arith) in
-    let position = c .before .before .before .before in
-    let ps = now (s .args .positions) in
-    let latitude = back w64 (getD ps (2 * l .k) (pos 0)) (position .before .forward-unchecked-arg .given) in
-    let longitude = back w64 (getD ps (2 * l .k + 1) (pos 0)) (position .forward-unchecked-arg2 .given) in
-    let point = c .before .before .before .forward-unchecked .ensures ∙ (λ i. forwardReply (s .args .sheet) (latitude i) (longitude i)) in
-    let more : eachAnswers (s .args .sheet) ps (l .k + 1) ≡ eachAnswers (s .args .sheet) ps (l .k) ++ w .last .0 =
-    each-more _ _ (l .k) ∙ ap (λ (r : List ℤ). eachAnswers (s .args .sheet) ps (l .k) ++ r) (sym (w .ensures ∙ ap eachAnswerOf point)) in
-    let next : 3 * l .k + 3 ≡ 3 * (l .k + 1) = omega arith in (
+    let w = c .before .set-map-answer in
+    let pair = c .before .before .before .before in (
       search needs,
-      rw more (simp length-append (omega arith)),
-      same-len-mid (3 * l .k) (3 * l .k + 3 - 3 * l .k) (l .answers) (w .last .0) as-lent ∙ l .inv .2,
-      rw (l .inv .3, more, ← next) (one-part (eachAnswers (s .args .sheet) ps (l .k)) (now (s .args .answers)) (w .last .0) (3 * l .k) (3 * l .k + 3) (l .inv .1) (omega arith)),
+      one-filled (l .inv .1) (omega arith) (w .kept .0) (w .ensures) (c .before .before .before .forward-unchecked .ensures)
+          (back w64 _ (pair .before .forward-unchecked-arg .given))
+          (back w64 _ (pair .forward-unchecked-arg2 .given)),
     )
 
 same-length : tie.Need-same-length Inv-loop μ-loop
@@ -107,9 +88,8 @@ same-length c = search needs
 
 returns : tie.Need-returns Inv-loop μ-loop
 returns c =
-    let s = c .before .before in
-    let e : c .before .loop .k ≡ s .args .count = omega arith in
-    rw e at (c .before .loop .inv .3)
+    let e : c .before .loop .k ≡ c .before .before .args .count = omega arith in
+    rw e at (c .before .loop .inv .1 .is)
 
 pub forward-each-spec : {M : Type 1} → statement M
 forward-each-spec =
@@ -128,11 +108,11 @@ forward-each-spec =
     forward-unchecked-requires
     mul-at
     add-end
-    mul-set-answer
-    sub-set-answer
-    part-set-answer-start
-    part-set-answer-end
-    set-answer-requires
+    mul-set-map-answer
+    sub-set-map-answer
+    part-set-map-answer-start
+    part-set-map-answer-end
+    set-map-answer-requires
     add-k
     loop-less
     loop-again

@@ -1,5 +1,7 @@
 -- `atlas_c::inverse_of` meets its contract. Assumes nothing.
+use mathlib.Core.Path.{sym, _∙_}
 use mir.Facts.{toZ-ofZ}
+use Rattle.atlas_c.proofs.SheetIn.{taken-passes}
 use borrow.Author.Needs.{needs}
 use Rattle.atlas_c.proofs.inverse_of.Statement.{statement}
 use Rattle.atlas_c.proofs.inverse_of.Tie as tie
@@ -10,8 +12,10 @@ sheet-in-requires c κs = search needs
 enum-known-answer : tie.Need-enum-known-answer
 enum-known-answer c = search needs
 
-inverse-requires : tie.Need-inverse-requires
-inverse-requires c κs = search needs
+inverse-unchecked-requires : tie.Need-inverse-unchecked-requires
+inverse-unchecked-requires c κs =
+    let a = c .before in
+    taken-passes _ _ (sym (a .before .before .sheet-in .ensures) ∙ a .answer .given .1)
 
 enum-known-answer-2 : tie.Need-enum-known-answer-2
 enum-known-answer-2 c = search needs
@@ -20,7 +24,7 @@ returns : tie.Need-returns
 returns c =
     let a = c .before .before in
     let s = a .before .before .before .before in
-    rw (← (a .before .before .sheet-in .ensures), a .answer .given .1, ← (toZ-ofZ (s .fits .x)), ← (toZ-ofZ (s .fits .y))) (c .inverse .ensures)
+    rw (← (a .before .before .sheet-in .ensures), a .answer .given .1, ← (toZ-ofZ (s .fits .x)), ← (toZ-ofZ (s .fits .y))) (c .inverse-unchecked .ensures)
 
 returns-2 : tie.Need-returns-2
 returns-2 c = rw (← (c .before .before .before .sheet-in .ensures), c .before .answer2 .given .1)
@@ -31,7 +35,7 @@ inverse-of-spec =
     (tie.spec
     sheet-in-requires
     enum-known-answer
-    inverse-requires
+    inverse-unchecked-requires
     enum-known-answer-2
     returns
     returns-2)

@@ -1,69 +1,44 @@
 -- `atlas_c::sheet_in` meets its contract. Assumes nothing.
-use mathlib.Core.Path.{_≡_, ap, _∙_}
-use borrow.Author.Tests.{eq-eqb, ne-eqb}
-use denote.Ref.{now}
-use Rattle.atlas_file.specs.Steps.{stepOf}
-use Rattle.atlas_file.specs.Reading.{startOf}
-use Rattle.atlas_file.proofs.Answers.{distinct-step-replies}
-use Rattle.atlas_c.specs.Given.{firstSheet, sheetIn}
+use mathlib.Core.Path.{_≡_, ap, sym, _∙_}
 use borrow.Author.Needs.{needs}
+use Rattle.sheet.specs.Sheets.{replyOf}
+use Rattle.sheet.proofs.Answers.{good-passes}
+use Rattle.atlas_c.specs.declared.SheetAnswer.the-variants as sheet
+use Rattle.atlas_c.proofs.SheetIn.{record-taken}
 use Rattle.atlas_c.proofs.sheet_in.Statement.{statement}
 use Rattle.atlas_c.proofs.sheet_in.Tie as tie
 
-start-requires : tie.Need-start-requires
-start-requires c κs = search needs
+is-sheet-record-requires : tie.Need-is-sheet-record-requires
+is-sheet-record-requires c κs = search needs
 
-step-requires : tie.Need-step-requires
-step-requires c κs = search needs
+decode-sheet-unchecked-requires : tie.Need-decode-sheet-unchecked-requires
+decode-sheet-unchecked-requires c κs = c .before .is-sheet-record .ensures (c .if1 .taken)
 
-enum-known-found : tie.Need-enum-known-found
-enum-known-found c = search needs
+check-requires : tie.Need-check-requires
+check-requires c κs = search needs
 
 enum-told : tie.Need-enum-told
 enum-told c = search needs
 
+returns : tie.Need-returns
+returns c =
+    let k = c .before .before in
+    let d = k .before in
+    let e = d .decode-sheet-unchecked .ensures in
+    let r = d .before .before .is-sheet-record .ensures (d .before .if1 .taken) in
+    let ok = good-passes (d .decode-sheet-unchecked .result) (sym (ap replyOf (c .enum-told .given .1)) ∙ k .check .ensures) in
+    ap sheet.Sheet e ∙ sym (record-taken _ r (rw e at ok))
+
 enum-told-2 : tie.Need-enum-told-2
 enum-told-2 c = search needs
 
-enum-known-found-2 : tie.Need-enum-known-found-2
-enum-known-found-2 c = search needs
-
--- the first step of a reader over the bytes
-first : (c : tie.After-step) → c .step .result ≡ stepOf (now (c .before .before .before .args .bytes)) (startOf 0)
-first c = distinct-step-replies _ _ (c .step .ensures) ∙ ap (stepOf _) (c .before .start .ensures)
-
-returns : tie.Need-returns
-unfolding firstSheet sheetIn
-returns c = rw (← (first (c .before .before .before .before .before)), c .before .before .before .found .given .1, eq-eqb _ _ (c .if1 .taken))
+first-sheet-requires : tie.Need-first-sheet-requires
+first-sheet-requires c κs = search needs
 
 returns-2 : tie.Need-returns-2
-unfolding firstSheet sheetIn
-returns-2 c = rw (← (first (c .before .before .before .before .before)), c .before .before .before .found .given .1, ne-eqb _ _ (c .if1 .left))
-
-returns-3 : tie.Need-returns-3
-unfolding firstSheet sheetIn
-returns-3 c = rw (← (first (c .before .before)), c .enum-told .given .1)
-
-returns-4 : tie.Need-returns-4
-unfolding firstSheet sheetIn
-returns-4 c = rw (← (first (c .before .before)), c .enum-told2 .given .1)
-
-returns-5 : tie.Need-returns-5
-unfolding firstSheet sheetIn
-returns-5 c = rw (← (first (c .before .before .before)), c .before .found2 .given .1)
+returns-2 c = search needs
 
 pub sheet-in-spec : {M : Type 1} → statement M
 sheet-in-spec =
     tie.close
-    (tie.spec
-    start-requires
-    step-requires
-    enum-known-found
-    enum-told
-    enum-told-2
-    enum-known-found-2
-    returns
-    returns-2
-    returns-3
-    returns-4
-    returns-5)
+    (tie.spec is-sheet-record-requires decode-sheet-unchecked-requires check-requires enum-told returns enum-told-2 first-sheet-requires returns-2)

@@ -16,21 +16,18 @@ check-requires c κs = search needs
 enum-told : tie.Need-enum-told
 enum-told c = search needs
 
-edge-values-requires : tie.Need-edge-values-requires
-edge-values-requires c κs =
+inverse-unchecked-requires : tie.Need-inverse-unchecked-requires
+inverse-unchecked-requires c κs =
     let k = c .before .before in
     good-passes (k .before .args .sheet) (sym (ap replyOf (c .enum-told .given .1)) ∙ k .check .ensures)
-
-inverse-with-edges-requires : tie.Need-inverse-with-edges-requires
-inverse-with-edges-requires c κs = (edge-values-requires (c .before) κs, c .edge-values .ensures)
 
 enum-known-verdict : tie.Need-enum-known-verdict
 enum-known-verdict c = search needs
 
 returns : tie.Need-returns
 returns c =
-    let s = c .before .before .before .before .before in
-    rw (toZ-ofZ (s .fits .x), toZ-ofZ (s .fits .y)) at (c .inverse-with-edges .ensures)
+    let s = c .before .before .before .before in
+    rw (toZ-ofZ (s .fits .x), toZ-ofZ (s .fits .y)) at (c .inverse-unchecked .ensures)
 
 returns-2 : tie.Need-returns-2
 returns-2 c =
@@ -45,8 +42,7 @@ inverse-spec =
     (tie.spec
     check-requires
     enum-told
-    edge-values-requires
-    inverse-with-edges-requires
+    inverse-unchecked-requires
     enum-known-verdict
     returns
     returns-2)

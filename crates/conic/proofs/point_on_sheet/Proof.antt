@@ -9,10 +9,12 @@ use Rattle.arith.proofs.Order.{true-lt}
 use Rattle.arith.proofs.Size.{size-neg}
 use Rattle.arith.proofs.Fits.{Range, fits, plain, param, r-bits, r-sub}
 use Rattle.trig.specs.Trig.{ONE, sineLimit}
+use Rattle.cone.specs.Cone.{IsX, IsV, sineAt, cosineAt, notLeft, notRight}
+use Rattle.cone.proofs.Sizes.{sine-at-size, cosine-at-size}
 use Rattle.sheet.specs.Sheets.{n}
 use Rattle.sheet.proofs.Fields.{Typed, typed, wide}
-use Rattle.conic.specs.MapToGlobe.{pointLimit, IsV, sineAt, cosineAt, notLeft, notRight, pointOnSheet}
-use Rattle.conic.proofs.Ranges.{n-size, w-size, sine-at-size, cosine-at-size}
+use Rattle.conic.specs.MapToGlobe.{pointOnSheet}
+use Rattle.conic.proofs.Ranges.{n-size, w-size}
 use Rattle.conic.proofs.point_on_sheet.Statement.{statement}
 use Rattle.conic.proofs.point_on_sheet.Tie as tie
 
@@ -38,20 +40,20 @@ cast-result-2 c = fits (param (told (c .before .before) .fs)) tt
 sub-result-2 : tie.Need-sub-result-2
 sub-result-2 c = let t = told (c .before .before) in fits (radius-of (t .g) (t .fs)) tt
 
--- what not_left and not_right require at an edge
+-- what not_left_unchecked and not_right_unchecked require at an edge
 at-edge : (s : tie.Start) (d : ℤ) → Size (pos 60000000) d → let a = s .args in
-    Size (pos sineLimit) (sineAt (n (a .sheet)) d) × (Size ONE (cosineAt (n (a .sheet)) d) × (Size (pos pointLimit) (a .x) × IsV (a .v)))
+    Size (pos sineLimit) (sineAt (n (a .sheet)) d) × (Size ONE (cosineAt (n (a .sheet)) d) × (IsX (a .x) × IsV (a .v)))
 at-edge s d d-size =
     let n-up-to = n-size (s .args .sheet) (s .pre .0) in
     (sine-at-size _ d n-up-to d-size, (cosine-at-size _ d n-up-to d-size, (s .pre .1 .1 .0, s .pre .1 .1 .1 .0)))
 
-not-left-requires : tie.Need-not-left-requires
-not-left-requires c κs =
+not-left-unchecked-requires : tie.Need-not-left-unchecked-requires
+not-left-unchecked-requires c κs =
     let s = c .before .before .before .before .before .before .before .before in
     rw (s .pre .1 .0, toZ-ofZ (s .fits .x), toZ-ofZ (s .fits .v)) (at-edge s _ (size-neg (w-size (s .args .sheet) (s .pre .0))))
 
-not-right-requires : tie.Need-not-right-requires
-not-right-requires c κs =
+not-right-unchecked-requires : tie.Need-not-right-unchecked-requires
+not-right-unchecked-requires c κs =
     let s = c .before .before .before .before .before .before .before .before .before in
     rw (s .pre .1 .0, toZ-ofZ (s .fits .x), toZ-ofZ (s .fits .v)) (at-edge s _ (w-size (s .args .sheet) (s .pre .0)))
 
@@ -62,8 +64,8 @@ returns c =
     let t = told (k .before .before) in
     let s = k .before .before .before .before .before .before .before .before in
     rw (
-      c .not-right .ensures,
-      c .before .not-left .ensures,
+      c .not-right-unchecked .ensures,
+      c .before .not-left-unchecked .ensures,
       s .pre .1 .0,
       toZ-ofZ (s .fits .x),
       toZ-ofZ (s .fits .v),
@@ -83,6 +85,6 @@ point-on-sheet-spec =
     sub-result
     cast-result-2
     sub-result-2
-    not-left-requires
-    not-right-requires
+    not-left-unchecked-requires
+    not-right-unchecked-requires
     returns)

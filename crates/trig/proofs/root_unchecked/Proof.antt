@@ -1,69 +1,81 @@
--- `trig::root_unchecked` meets its contract. Assumes nothing.
-use mathlib.Core.Path.{_≡_, ap, ap₂, _∙_}
-use Prim.Native.Nat.{ℕ, _+_, _*_, _-_, _^_, _≤_, _<_}
-use native.Mathlib.Omega.{arith}
-use borrow.Author.Tests.{lt-ltb, le-ltb}
-use lib.IntN.{pos, natAbs}
+-- `trig::root_unchecked` meets its contract: a guess s is the root if -s < q - s² ≤ s. Assumes nothing.
+use mathlib.Core.Path.{_≡_, _∙_}
+use borrow.Author.Needs.{needs}
+use lib.IntN.{ℤ, pos, _-ℤ_, _*ℤ_}
+use lib.Signed.{_≤ℤ_, _<ℤ_}
 use mir.Syntax.{w64}
-use mir.Facts.{toZ-ofZ, toZ-pos}
+use mir.Val.{toZ, ofZ}
+use mir.Facts.{toZ-ofZ}
+use Rattle.arith.specs.Bounds.{Within}
 use Rattle.arith.proofs.Parts.{linear}
-use Rattle.arith.proofs.Order.{abs-parts}
-use Rattle.arith.proofs.Fits.{fits, nat, cast-fits, bounded}
-use Rattle.trig.specs.Trig.{rootBelow, rounded, rootOf}
-use Rattle.trig.proofs.Roots.{below-most}
+use Rattle.arith.proofs.Tests.{facts, said}
+use Rattle.arith.proofs.Fits.{Range, fits, cast-fits, plain, inside-of, back, bounded, lit, r-bits, r-sub, r-mul}
+use Rattle.trig.proofs.Roots.{root-by-off}
 use Rattle.trig.proofs.root_unchecked.Statement.{statement}
 use Rattle.trig.proofs.root_unchecked.Tie as tie
 
-cast-root-below : tie.Need-cast-root-below
-cast-root-below c = cast-fits (bounded w64 (c .pre)) tt
+cast-root : tie.Need-cast-root
+cast-root c = cast-fits (bounded w64 (c .pre)) tt
 
-q-most : (c : tie.Start) → natAbs (c .args .q) ≤ 2 ^ 60
-q-most c = omega (linear, c .pre .low, c .pre .high, abs-parts (c .args .q))
+root-requires : tie.Need-root-requires
+root-requires c κs = search needs
 
-root-below-requires : tie.Need-root-below-requires
-root-below-requires c κs = rw (toZ-ofZ (c .fits .q)) (q-most c)
+-- a guess from 1 to ONE, and how far q lies from its square
+module _ (c : tie.Then1) where
+  abbrev s : tie.Start
+  s = c .before .before
 
--- ---- what the root from below gives
+  abbrev guessed : ℤ
+  guessed = c .before .root .result
 
-module _ (c : tie.After-root-below) where
-  abbrev q : ℕ
-  q = natAbs (c .before .args .q)
+  near-is : toZ w64 (ofZ w64 guessed) ≡ guessed
+  near-is = back w64 guessed (c .before .root .ok)
 
-  root-is : c .root-below .result .root ≡ rootBelow q
-  root-is = rw (toZ-ofZ (c .before .fits .q)) at (c .root-below .ensures .0)
+  near-in : Within (pos 1) (pos 1073741824) guessed
+  near-in = let f = rw near-is at (facts (c .if1 .taken) (search said depth 9)) in record { low = f .0; high = f .1 }
 
-  remainder-is : c .root-below .result .remainder ≡ q - rootBelow q * rootBelow q
-  remainder-is = let e = rw (toZ-ofZ (c .before .fits .q)) at (c .root-below .ensures .1) in omega arith
+  abbrev near : Range (toZ w64 (ofZ w64 guessed))
+  near = bounded w64 near-in
 
-  root-most : c .root-below .result .root ≤ 2 ^ 30
-  root-most = rw root-is (below-most q (q-most (c .before)))
+  abbrev square : Range (toZ w64 (ofZ w64 guessed) *ℤ toZ w64 (ofZ w64 guessed))
+  square = r-mul near near
 
-  root-of : rounded (c .root-below .result .root) (c .root-below .result .remainder) ≡ rootOf q
-  unfolding rootOf
-  root-of = ap₂ rounded root-is remainder-is
+  abbrev off : Range (toZ w64 (ofZ w64 (s .args .q)) -ℤ toZ w64 (ofZ w64 (toZ w64 (ofZ w64 guessed) *ℤ toZ w64 (ofZ w64 guessed))))
+  off = r-sub (bounded w64 (s .pre)) (r-bits w64 square)
 
-rounded-up : (s m : ℕ) → s < m → s + 1 ≡ rounded s m
-unfolding rounded
-rounded-up s m h = rw (lt-ltb s m h)
+  abbrev minus : Range (pos 0 -ℤ toZ w64 (ofZ w64 guessed))
+  minus = r-sub (lit (pos 0)) near
 
-rounded-down : (s m : ℕ) → m ≤ s → s ≡ rounded s m
-unfolding rounded
-rounded-down s m h = rw (le-ltb s m h)
+mul-off : tie.Need-mul-off
+mul-off c = fits (square c) tt
 
-add-result : tie.Need-add-result
-add-result c = omega (arith, root-most (c .before .before))
+sub-off : tie.Need-sub-off
+sub-off c = fits (off c) tt
 
-cast-result : tie.Need-cast-result
-cast-result c = fits (nat {m = 2 ^ 31} (omega (arith, root-most (c .before .before)))) tt
+sub-if2 : tie.Need-sub-if2
+sub-if2 c = fits (minus c) tt
 
 returns : tie.Need-returns
-returns c = let b = c .before .before in toZ-pos w64 (omega (arith, root-most b)) ∙ ap pos (rounded-up _ _ (c .if1 .taken) ∙ root-of b)
+returns c =
+    let k = c .before in
+    let f = rw (plain (r-bits w64 (minus k)) tt, plain (r-bits w64 (off k)) tt, near-is k) at (facts (c .if2 .taken) (search said depth 9)) in
+    near-is k ∙ root-by-off (s k .args .q) (guessed k) (s k .pre) (f .0) (f .1)
 
-cast-result-2 : tie.Need-cast-result-2
-cast-result-2 c = fits (nat (root-most (c .before .before))) tt
+root-by-bits-requires : tie.Need-root-by-bits-requires
+root-by-bits-requires c κs = inside-of (bounded w64 (c .before .before .pre)) tt
 
 returns-2 : tie.Need-returns-2
-returns-2 c = let b = c .before .before in toZ-pos w64 (omega (arith, root-most b)) ∙ ap pos (rounded-down _ _ (c .if1 .left) ∙ root-of b)
+returns-2 c = let k = c .root-by-bits in back w64 (k .result) (k .ok) ∙ rw (toZ-ofZ (c .before .before .before .fits .q)) at (k .ensures)
 
 pub root-unchecked-spec : {M : Type 1} → statement M
-root-unchecked-spec = tie.close (tie.spec cast-root-below root-below-requires add-result cast-result returns cast-result-2 returns-2)
+root-unchecked-spec =
+    tie.close
+    (tie.spec
+    cast-root
+    root-requires
+    mul-off
+    sub-off
+    sub-if2
+    returns
+    root-by-bits-requires
+    returns-2)

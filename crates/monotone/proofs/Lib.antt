@@ -1,0 +1,3 @@
+-- Rows of factors, then sine and cosine.
+pub mod Rows
+pub mod Monotone
