@@ -61,6 +61,12 @@ uint32_t atlas_place(const uint8_t *file, size_t file_length, size_t index, uint
  * if no place is within reach. */
 uint32_t atlas_nearest(const uint8_t *file, size_t file_length, int64_t x, int64_t y, int64_t reach, size_t *index);
 
+/* The indexes of all places of a file no farther than `reach` units from the map point x, y, by distance, then id, into the first entries of
+ * `indexes`, and their count, 0 if there are none; later entries are unchanged. Room for atlas_count's count, at most 1,000, is always enough.
+ * Refusals: as atlas_check, then 12 as atlas_nearest, then 10 if `indexes` is too short. */
+uint32_t atlas_places_in_reach(const uint8_t *file, size_t file_length, int64_t x, int64_t y, int64_t reach, size_t *indexes,
+                               size_t indexes_length, size_t *count);
+
 /* The usual reach of a tap, 50,000 units. */
 int64_t atlas_usual_reach(void);
 

@@ -1,6 +1,7 @@
 /* Calls every function of atlas.h, with arguments and answers that all differ, so that a parameter that the source swaps, leaves out or narrows
  * is seen (tools/prototypes holds the header against the source); and holds that a refusal writes nothing. The file is the one of a sheet and the
- * places 7, "Mill", and 4,000,000,009; the numbers are document 01's examples, or were worked out by its steps in another program. */
+ * places 7, "Mill", and 4,000,000,009, for lists one of places near each other; the numbers are document 01's examples, or were worked out by its
+ * steps in another program. */
 #include <stdio.h>
 #include <string.h>
 
@@ -19,7 +20,7 @@ static void expect(int holds, const char *what, int line)
 
 #define EXPECT(condition) expect((condition), #condition, __LINE__)
 
-static uint8_t file[200];
+static uint8_t file[240];
 static size_t length;
 
 static void put(uint8_t byte)
@@ -45,18 +46,42 @@ static void put_place(int64_t id, int64_t latitude, int64_t longitude, int64_t x
         put(k < n ? (uint8_t)name[k] : 0);
 }
 
-/* Document 01's sheet A and its place, case 7, then the place of case 8, then the end. */
+/* Document 01's sheet A. */
 static const int64_t sheet_a[] = {30000000, 30000000, 30000000, 10000000, 20000000, 40000000, 60000000, 536870912, 129239201};
 
-static void make_file(void)
+static void begin_file(void)
 {
+    length = 0;
     put(1);
     for (int k = 0; k < 9; k++)
         put_number(sheet_a[k]);
+}
+
+static void end_file(int64_t count)
+{
+    put(3);
+    put_number(count);
+}
+
+/* The places of cases 7 and 8. */
+static void make_file(void)
+{
+    begin_file();
     put_place(7, 31000000, 10000000, 0, 1000000, "Mill");
     put_place(4000000009, 30000000, 70000000, 49619600, 13295532, "A name of 16 ch.");
-    put(3);
-    put_number(2);
+    end_file(2);
+}
+
+/* Places near each other, two of them on one spot. */
+static void make_file_of_close_places(void)
+{
+    begin_file();
+    put_place(7, 31000000, 10000000, 0, 1000000, "Mill");
+    put_place(8, 31000030, 10000000, 0, 1000030, "Well");
+    put_place(9, 31000030, 10000000, 0, 1000030, "Gate");
+    put_place(12, 31000012, 9999985, -12, 1000012, "Ford");
+    put_place(4000000009, 30999980, 10000000, 0, 999980, "Ridge");
+    end_file(5);
 }
 
 static void check_file(void)
@@ -120,6 +145,50 @@ static void check_nearest(void)
     EXPECT(atlas_nearest(file, length, 1, 2, ATLAS_REACH_LIMIT + 1, &index) == 12);
     EXPECT(atlas_nearest(file, length, ATLAS_POINT_LIMIT, -ATLAS_POINT_LIMIT, ATLAS_REACH_LIMIT, &index) == 13);
     EXPECT(atlas_nearest(file, 40, 1, 2, 3, &index) == 1 && index == 88);
+}
+
+/* From the tap the five places have the squared distances 25, 685, 685, 145 and 585. */
+static void check_places_in_reach(void)
+{
+    enum { ROOM = 7 };
+    const size_t list[] = {0, 3, 4, 1, 2};
+    size_t indexes[ROOM], untouched[ROOM], count = SIZE_MAX - 99, index;
+    for (size_t k = 0; k < ROOM; k++)
+        untouched[k] = indexes[k] = SIZE_MAX - k; /* so that a narrower write is seen */
+    make_file_of_close_places();
+    EXPECT(atlas_check(file, length) == 0);
+
+    EXPECT(atlas_places_in_reach(file, length - 1, -3, 1000004, -1, indexes, 2, &count) == 1);
+    EXPECT(atlas_places_in_reach(file, length, ATLAS_POINT_LIMIT + 1, 1000004, 25, indexes, ROOM, &count) == 12);
+    EXPECT(atlas_places_in_reach(file, length, -3, -ATLAS_POINT_LIMIT - 1, 25, indexes, ROOM, &count) == 12);
+    EXPECT(atlas_places_in_reach(file, length, 4294967296 - 3, 1000004, 25, indexes, ROOM, &count) == 12);
+    EXPECT(atlas_places_in_reach(file, length, -3, 4294967296 + 1000004, 25, indexes, ROOM, &count) == 12);
+    EXPECT(atlas_places_in_reach(file, length, -3, 1000004, 4294967296 + 25, indexes, ROOM, &count) == 12);
+    EXPECT(atlas_places_in_reach(file, length, -3, 1000004, -25, indexes, ROOM, &count) == 12);
+    EXPECT(atlas_places_in_reach(file, length, -3, 1000004, ATLAS_REACH_LIMIT + 1, indexes, 2, &count) == 12);
+    EXPECT(atlas_places_in_reach(file, length, -3, 1000004, ATLAS_REACH_LIMIT, indexes, 4, &count) == 10);
+    EXPECT(atlas_places_in_reach(file, length, -3, 1000004, 25, indexes, 2, &count) == 10);
+    EXPECT(atlas_places_in_reach(file, length, -3, 1000004, 5, indexes, 0, &count) == 10);
+    EXPECT(count == SIZE_MAX - 99 && !memcmp(indexes, untouched, sizeof indexes));
+
+    EXPECT(atlas_places_in_reach(file, length, -3, 1000004, 25, indexes, 3, &count) == 0 && count == 3);
+    EXPECT(!memcmp(indexes, list, 3 * sizeof *list) && !memcmp(indexes + 3, untouched + 3, (ROOM - 3) * sizeof *indexes));
+    EXPECT(atlas_nearest(file, length, -3, 1000004, 25, &index) == 0 && index == list[0]);
+    EXPECT(atlas_places_in_reach(file, length, -3, 1000004, 27, indexes, ROOM, &count) == 0 && count == 5);
+    EXPECT(!memcmp(indexes, list, sizeof list) && !memcmp(indexes + 5, untouched + 5, (ROOM - 5) * sizeof *indexes));
+
+    memcpy(indexes, untouched, sizeof indexes);
+    EXPECT(atlas_places_in_reach(file, length, -3, 1000004, 4, indexes, ROOM, &count) == 0 && count == 0);
+    EXPECT(atlas_nearest(file, length, -3, 1000004, 4, &index) == 13);
+    count = SIZE_MAX - 99;
+    EXPECT(atlas_places_in_reach(file, length, -3, 1000004, 4, indexes, 0, &count) == 0 && count == 0);
+    EXPECT(!memcmp(indexes, untouched, sizeof indexes));
+    EXPECT(atlas_places_in_reach(file, length, -3, 1000004, 5, indexes, 1, &count) == 0 && count == 1);
+    EXPECT(indexes[0] == 0 && !memcmp(indexes + 1, untouched + 1, (ROOM - 1) * sizeof *indexes));
+
+    begin_file();
+    end_file(0);
+    EXPECT(atlas_places_in_reach(file, length, 0, 0, ATLAS_REACH_LIMIT, indexes, 0, &count) == 0 && count == 0);
 }
 
 static void check_projection(void)
@@ -205,6 +274,7 @@ int main(void)
     check_projection();
     check_many();
     check_sheet_refusals();
+    check_places_in_reach(); /* with files of its own */
     printf("calls.c: %u checks, %u failed\n", checked, failed);
     return failed != 0;
 }

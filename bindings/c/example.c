@@ -1,4 +1,5 @@
-/* example FILE X Y: how many places an atlas file has, where the map point X, Y lies on the globe, and the place nearest to it. */
+/* example FILE X Y: how many places an atlas file has, where the map point X, Y lies on the globe, the place nearest to it, and all places within
+ * the usual reach of it. */
 #include <inttypes.h>
 #include <stdio.h>
 #include <stdlib.h>
@@ -13,6 +14,18 @@ static int refused(uint32_t number)
 {
     printf("refused %" PRIu32 "\n", number);
     return 1;
+}
+
+/* Prints the place at an index of the file, after a word on it. */
+static uint32_t print_place(const char *what, size_t length, size_t index)
+{
+    uint32_t id;
+    int32_t latitude, longitude, x, y;
+    uint8_t name[ATLAS_NAME_SIZE];
+    uint32_t number = atlas_place(file, length, index, &id, &latitude, &longitude, &x, &y, name);
+    if (!number)
+        printf("%s: %" PRIu32 " %.*s, at %" PRId32 " %" PRId32 "\n", what, id, ATLAS_NAME_SIZE, (const char *)name, x, y);
+    return number;
 }
 
 int main(int argc, char **argv)
@@ -48,17 +61,21 @@ int main(int argc, char **argv)
         return refused(number);
     printf("latitude %" PRId64 ", longitude %" PRId64 "\n", latitude, longitude);
 
-    size_t index;
+    size_t index, indexes[1000], near;
     number = atlas_nearest(file, length, x, y, atlas_usual_reach(), &index);
     if (number)
         return refused(number);
-
-    uint32_t id;
-    int32_t place_latitude, place_longitude, place_x, place_y;
-    uint8_t name[ATLAS_NAME_SIZE];
-    number = atlas_place(file, length, index, &id, &place_latitude, &place_longitude, &place_x, &place_y, name);
+    number = print_place("nearest", length, index);
     if (number)
         return refused(number);
-    printf("nearest: %" PRIu32 " %.*s, at %" PRId32 " %" PRId32 "\n", id, ATLAS_NAME_SIZE, (const char *)name, place_x, place_y);
+
+    number = atlas_places_in_reach(file, length, x, y, atlas_usual_reach(), indexes, 1000, &near);
+    if (number)
+        return refused(number);
+    for (size_t k = 0; k < near; k++) {
+        number = print_place("within reach", length, indexes[k]);
+        if (number)
+            return refused(number);
+    }
     return 0;
 }

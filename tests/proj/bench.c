@@ -13,6 +13,7 @@
 #define PLACES 1000
 #define TAPS 1000
 #define READINGS 20
+#define LISTS 5
 
 /* The engine's functions for tests: crates/test_interface. */
 typedef struct {
@@ -30,6 +31,8 @@ uint64_t melgoweth_test_offset(uint32_t n, int64_t x, int64_t v, uint32_t w, int
 int64_t melgoweth_test_guess_offset(uint32_t n, int32_t x, int32_t v);
 uint64_t melgoweth_test_read(const uint8_t *bytes, size_t length, Place *table, size_t room, uint64_t numbers[2], int64_t sheet[9]);
 uint64_t melgoweth_test_nearest(const Place *table, size_t count, int64_t x, int64_t y, int64_t reach, uint64_t *out);
+uint64_t melgoweth_test_places_in_reach(const Place *table, size_t count, int64_t x, int64_t y, int64_t reach, Place *found, size_t room,
+                                        uint64_t *out);
 
 /* ---- What is measured upon */
 
@@ -43,6 +46,9 @@ static PJ_COORD radians[POSITIONS], plane[POSITIONS], coordinates[POSITIONS];
 static Place places[PLACES], table[PLACES];
 static uint8_t file[ATLAS_SHEET_SIZE + 37 * PLACES + 5];
 static int64_t taps[2 * TAPS];
+
+/* Places at one point with falling ids, so that each goes before all that are listed already; places in a row toward the tap do the same. */
+static Place same_point[PLACES], toward_tap[PLACES], listed[PLACES];
 
 static int64_t checksum;
 
@@ -106,6 +112,16 @@ static void make_taps(void)
         int64_t off = i % 4 == 0 ? 10000000 : 30000;
         taps[2 * i] = place->x + between(-off, off);
         taps[2 * i + 1] = place->y + between(-off, off);
+    }
+}
+
+static void make_lists(void)
+{
+    for (int i = 0; i < PLACES; i++) {
+        same_point[i] = toward_tap[i] = places[i];
+        same_point[i].id = toward_tap[i].id = (uint32_t)(PLACES - i);
+        same_point[i].x = same_point[i].y = toward_tap[i].y = 0;
+        toward_tap[i].x = PLACES - i;
     }
 }
 
@@ -215,6 +231,17 @@ static void check_file_and_taps(void)
     }
     if (found < TAPS / 2 || found == TAPS)
         fail("taps are to find a place often, but not always");
+}
+
+/* Both lists have every place, the last of the table first. */
+static void check_list(const Place *searched)
+{
+    uint64_t count;
+    if (melgoweth_test_places_in_reach(searched, PLACES, 0, 0, atlas_usual_reach(), listed, PLACES, &count) != 0 || count != PLACES)
+        fail("the list has not every place");
+    for (int i = 0; i < PLACES; i++)
+        if (memcmp(&listed[i], &searched[PLACES - 1 - i], sizeof *listed) != 0)
+            fail("the order of the list");
 }
 
 /* ---- How often sine and cosine are evaluated for the offset of a map point */
@@ -428,6 +455,25 @@ static void run_nearest_in_file(void)
     }
 }
 
+static void run_list(const Place *searched)
+{
+    uint64_t count;
+    for (int i = 0; i < LISTS; i++) {
+        checksum += (int64_t)melgoweth_test_places_in_reach(searched, PLACES, 0, 0, 50000, listed, PLACES, &count);
+        checksum += (int64_t)count;
+    }
+}
+
+static void run_list_of_same_point(void)
+{
+    run_list(same_point);
+}
+
+static void run_list_toward_tap(void)
+{
+    run_list(toward_tap);
+}
+
 static void run_sheet_check(void)
 {
     for (int i = 0; i < POSITIONS; i++)
@@ -482,6 +528,8 @@ enum {
     READ,
     TAP,
     TAP_FILE,
+    LIST_SAME_POINT,
+    LIST_TOWARD_TAP,
     SHEET_CHECK,
     ROOT,
     PAIR,
@@ -505,6 +553,8 @@ static Measure measures[MEASURES] = {
     [READ] = {.what = "file of 1,000 places: into a table", .calls = READINGS, .engine = run_read},
     [TAP] = {.what = "tap: in a table of 1,000 places", .calls = TAPS, .engine = run_nearest_in_table},
     [TAP_FILE] = {.what = "tap: atlas_nearest, which reads the file", .calls = READINGS, .engine = run_nearest_in_file},
+    [LIST_SAME_POINT] = {.what = "list: 1,000 of 1,000, falling ids", .calls = LISTS, .engine = run_list_of_same_point},
+    [LIST_TOWARD_TAP] = {.what = "list: 1,000 of 1,000, falling distances", .calls = LISTS, .engine = run_list_toward_tap},
     [SHEET_CHECK] = {.what = "part: sheet check", .calls = POSITIONS, .engine = run_sheet_check},
     [ROOT] = {.what = "part: root", .calls = POSITIONS, .engine = run_root},
     [PAIR] = {.what = "part: a sine and a cosine", .calls = POSITIONS, .engine = run_sine_and_cosine},
@@ -556,9 +606,12 @@ int main(void)
     make_positions();
     make_file();
     make_taps();
+    make_lists();
     check_forward();
     check_inverse();
     check_file_and_taps();
+    check_list(same_point);
+    check_list(toward_tap);
     count_evaluations();
 
     for (int m = 0; m < MEASURES; m++)
@@ -602,6 +655,7 @@ int main(void)
     print_target("reading 1,000 places: atlas_check", median(CHECK) / 1e6, "ms", "under 1 ms", 1);
     print_target("reading 1,000 places: into a table", median(READ) / 1e6, "ms", "under 1 ms", 1);
     print_target("a tap: in a table of 1,000 places", median(TAP) / 1e3, "us", "under 5 us", 5);
+    print_target("list: 1,000 of 1,000 places", fmax(median(LIST_SAME_POINT), median(LIST_TOWARD_TAP)) / 1e6, "ms", "under 5 ms", 5);
     printf("\nchecksum %" PRId64 "\n", checksum);
     return 0;
 }

@@ -30,6 +30,16 @@ extern "C" {
         reach: i64,
         index: *mut usize,
     ) -> u32;
+    pub fn atlas_places_in_reach(
+        file: *const u8,
+        file_length: usize,
+        x: i64,
+        y: i64,
+        reach: i64,
+        indexes: *mut usize,
+        indexes_length: usize,
+        count: *mut usize,
+    ) -> u32;
     pub fn atlas_usual_reach() -> i64;
     pub fn atlas_forward(
         sheet: *const u8,

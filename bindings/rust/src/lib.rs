@@ -7,8 +7,12 @@
 //! ```no_run
 //! let file = std::fs::read("atlas.bin").unwrap();
 //! let atlas = melgoweth::Atlas::open(&file).unwrap();
-//! let index = atlas.nearest(1200000, -260000, melgoweth::usual_reach()).unwrap();
+//! let reach = melgoweth::usual_reach();
+//! let index = atlas.nearest(1200000, -260000, reach).unwrap();
 //! println!("{}", atlas.place(index).unwrap().name());
+//! for place in atlas.places_in_reach(1190000, -300000, reach).unwrap() {
+//!     println!("{}", place.name());
+//! }
 //! ```
 
 // SAFETY, of every call: slices go with their own lengths, and out-parameters
@@ -190,6 +194,40 @@ impl<'a> Atlas<'a> {
             ffi::atlas_nearest(self.file.as_ptr(), self.file.len(), x, y, reach, &mut index)
         };
         answer(number, index)
+    }
+
+    /// The indexes of all places no farther than `reach` from a map point, by
+    /// distance, then id; there may be none. Refused with 12.
+    pub fn indexes_in_reach(&self, x: i64, y: i64, reach: i64) -> Result<Vec<usize>, Refusal> {
+        // room for all places of the file, so that 10 does not come back
+        let (mut indexes, mut count) = (vec![0; self.count], 0);
+        let number = unsafe {
+            ffi::atlas_places_in_reach(
+                self.file.as_ptr(),
+                self.file.len(),
+                x,
+                y,
+                reach,
+                indexes.as_mut_ptr(),
+                indexes.len(),
+                &mut count,
+            )
+        };
+        indexes.truncate(count);
+        answer(number, indexes)
+    }
+
+    /// The places at these indexes, in this order. Each is read when it is
+    /// asked for, and the file is read through for it.
+    pub fn places_in_reach(
+        &self,
+        x: i64,
+        y: i64,
+        reach: i64,
+    ) -> Result<impl Iterator<Item = Place> + 'a, Refusal> {
+        let atlas = *self;
+        let indexes = self.indexes_in_reach(x, y, reach)?.into_iter();
+        Ok(indexes.map(move |index| atlas.place(index).expect("an index of the file")))
     }
 }
 

@@ -1,6 +1,5 @@
 -- What the proofs of the crate's functions cite, and the laws of its specs/.
 pub mod Derived
-pub mod Entries
 pub mod FilePlaces
 pub mod PlacesInTurn
 pub mod BufferParts

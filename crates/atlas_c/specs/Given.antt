@@ -18,6 +18,7 @@ use Rattle.atlas_file.specs.declared.Found.the-variants as found
 use Rattle.atlas_file.specs.Steps.{mostPlaces, stepOf}
 use Rattle.atlas_file.specs.Reading.{FileReply, readReply, startOf}
 use Rattle.lookup.specs.Lookups.{placeAtReply, nearestPlaceReply}
+use Rattle.lookup_all.specs.Positions.{positionsReply}
 use Rattle.atlas_c.specs.declared.SheetAnswer.{SheetAnswer}
 use Rattle.atlas_c.specs.declared.SheetAnswer.the-variants as sheet
 
@@ -59,6 +60,10 @@ placeReply b k = given (placeAtReply b k .number) (placeValues (placeAtReply b k
 
 abbrev pub nearestReply : (file : List ℕ) (x y reach : ℤ) → Reply
 nearestReply b x y reach = given (nearestPlaceReply b x y reach .number) (pos (nearestPlaceReply b x y reach .position) ∷ [])
+
+-- the indexes of the places of a file within reach, where `room` numbers are lent: their count (what the numbers hold then is `positionsAfter`)
+abbrev pub inReachReply : (file : List ℕ) (x y reach : ℤ) (room : ℕ) → Reply
+inReachReply b x y reach room = let reply = positionsReply b x y reach room in given (reply .number) (pos (reply .count) ∷ [])
 
 -- the sheet whose record the bytes are: refused as the first record of a file is; then 3 where bytes follow it. A place and the end are not due first, so that these two are never found (Laws: NoPlaceFirst, NoEndFirst).
 unfoldable pub firstSheet : Found → (whole : Bool) → SheetAnswer

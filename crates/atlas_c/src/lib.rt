@@ -18,13 +18,15 @@ ghost use Rattle.conic.specs.MapToGlobe as inverse;
 ghost use Rattle.conic.specs.MapToGlobe.{globeReplyOf};
 ghost use Rattle.nearest.specs.Taps.{usualReach};
 ghost use Rattle.atlas_file.specs.Reading.{fileReplyOf};
-ghost use Rattle.atlas_c.specs.Given.{given, orUntouched, fileReply, countReply, sheetReply, sheetAfter, placeReply, nearestReply, sheetIn, forwardReply, inverseReply, eachAnswerOf, eachAnswers, sheetForEach, forwardEachReply, inverseEachReply};
+ghost use Rattle.lookup_all.specs.Positions.{positionsAfter};
+ghost use Rattle.atlas_c.specs.Given.{given, orUntouched, fileReply, countReply, sheetReply, sheetAfter, placeReply, nearestReply, inReachReply, sheetIn, forwardReply, inverseReply, eachAnswerOf, eachAnswers, sheetForEach, forwardEachReply, inverseEachReply};
 use atlas_file::FileAnswer;
 use atlas_file::Found;
 use atlas_file::MOST_PLACES;
 use conic::GlobeAnswer;
 use conic::MapAnswer;
 use lookup::Lookup;
+use lookup_all::PositionsAnswer;
 use nearest::USUAL_REACH;
 use records::Layout;
 use records::Record;
@@ -145,6 +147,29 @@ pub extern "C" fn atlas_nearest(file: &[u8], x: i64, y: i64, reach: i64, index: 
             0
         }
         Lookup::Refused { refusal, offset: _ } => number(refusal),
+    }
+}
+
+// The indexes of the places of a file within the reach of a tap, nearest first, and their count.
+#[no_mangle]
+pub extern "C" fn atlas_places_in_reach(
+    file: &[u8],
+    x: i64,
+    y: i64,
+    reach: i64,
+    indexes: &mut [usize],
+    count: &mut usize,
+) -> u32
+    ensures { λ r. ⌜ given r (pos (now (count .exit)) ∷ []) ≡ orUntouched (inReachReply (now (file .entry)) x y reach (length (now (indexes .entry)))) (pos (now (count .entry)) ∷ []) ⌝ }
+    ensures { λ _. ⌜ now (indexes .exit) ≡ positionsAfter (now (file .entry)) x y reach (now (indexes .entry)) ⌝ }
+{
+    let answer = lookup_all::positions_in_reach(file, x, y, reach, indexes);
+    match answer {
+        PositionsAnswer::Listed { count: listed } => {
+            *count = listed;
+            0
+        }
+        PositionsAnswer::Refused { refusal, offset: _ } => number(refusal),
     }
 }
 

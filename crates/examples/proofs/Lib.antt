@@ -3,3 +3,4 @@ pub mod Hold
 pub mod Read
 pub mod Stored
 pub mod Printed
+pub mod Lists

@@ -1,5 +1,6 @@
--- The worked examples: the starred cases as one table, cases 11 and 12, and taps.
+-- The worked examples: the starred cases as one table, cases 11 and 12, taps, lists and the crowding report.
 pub mod Examples
 pub mod Files
 pub mod Tables
 pub mod Printed
+pub mod Lists

@@ -25,7 +25,7 @@ use Rattle.nearest.proofs.WithinReach.{is-reached, reached}
 
 module _ (t : List Place) (x y reach : ℤ) where
   -- a place within reach is among the candidates
-  candidate : (k : ℕ) → k < length t → squaredDistanceAt t x y k ≤ squared reach → List·Memᴰ (candidateOf t x y k) (withinReach t x y reach)
+  pub candidate : (k : ℕ) → k < length t → squaredDistanceAt t x y k ≤ squared reach → List·Memᴰ (candidateOf t x y k) (withinReach t x y reach)
   unfolding withinReach
   candidate k h d = is-reached x y (squared reach) 0 t k k h (omega arith) d
 
@@ -37,11 +37,11 @@ module _ (t : List Place) (x y reach : ℤ) where
       by-test true e = inl (leb-true _ _ e)
       by-test false e = inr (leb-false _ _ e)
 
-  none-in-reach : withinReach t x y reach ≡ [] → NoneInReach t x y reach
+  pub none-in-reach : withinReach t x y reach ≡ [] → NoneInReach t x y reach
   none-in-reach e k h = ⊎-elim (λ d. absurd (List·Memᴰ·not-nil (rw e at (candidate k h d)))) (λ d. d) (near-or-far k)
 
   -- the first of the candidates is the nearest place
-  first-candidate : (k : ℕ) → k < length t → squaredDistanceAt t x y k ≤ squared reach →
+  pub first-candidate : (k : ℕ) → k < length t → squaredDistanceAt t x y k ≤ squared reach →
       ((c : Candidate) → List·Memᴰ c (withinReach t x y reach) → NotAfter (candidateOf t x y k) c) → IsNearest t x y reach k
   first-candidate k h d first = record {
     in-table = h;

@@ -1,5 +1,7 @@
 // The place nearest to a tap (document 01, 'Taps'; 'tap' and 'reach' are its terms). A tap is a point x, y of the map; its reach is how far
 // from it, in units, a place may lie to be found.
+//
+// A function whose name ends in _unchecked is not offered to callers, as in trig.
 ghost use mathlib.Core.Path.{_≡_};
 ghost use mathlib.Core.List.{[], _∷_};
 ghost use lib.IntN.{pos};
@@ -46,7 +48,7 @@ pub fn nearest(table: &[Place], x: i64, y: i64, reach: i64) -> NearestAnswer
     ensures { λ r. ⌜ nearestReplyOf r ≡ nearestReply (now (table .entry)) x y reach ⌝ }
 {
     if tap_in_range(x, y, reach) {
-        let squared_reach = square(reach);
+        let squared_reach = square_unchecked(reach);
         let best = best_of(table, x, y, squared_reach);
         answer_of(best)
     } else {
@@ -68,7 +70,7 @@ enum Best {
 }
 
 // Whether a tap's coordinates and its reach are within their limits.
-fn tap_in_range(x: i64, y: i64, reach: i64) -> bool
+pub fn tap_in_range(x: i64, y: i64, reach: i64) -> bool
     ensures { λ r. ⌜ r ≡ tapInRange x y reach ⌝ }
 {
     trig::size_up_to(x, TAP_LIMIT)
@@ -76,8 +78,8 @@ fn tap_in_range(x: i64, y: i64, reach: i64) -> bool
         & ((0 <= reach) & (reach <= REACH_LIMIT))
 }
 
-// The square of a number that is no larger than the difference of a place's coordinate and a tap's.
-fn square(a: i64) -> u64
+// The square of a number that is no larger than the difference of a place's coordinate and a tap's; not offered to callers.
+pub fn square_unchecked(a: i64) -> u64
     requires { ⌜ Size (pos differenceLimit) a ⌝ }
     ensures { λ r. ⌜ r ≡ squared a ⌝ }
 {
@@ -90,11 +92,11 @@ fn squared_distance(place: Place, x: i64, y: i64) -> u64
     requires { ⌜ Size (pos tapLimit) y ⌝ }
     ensures { λ r. ⌜ r ≡ squaredDistance x y place ⌝ }
 {
-    square(place.x as i64 - x) + square(place.y as i64 - y)
+    square_unchecked(place.x as i64 - x) + square_unchecked(place.y as i64 - y)
 }
 
-// A place as a candidate, for a tap in range.
-fn candidate_at(place: Place, position: usize, x: i64, y: i64) -> Candidate
+// A place as a candidate, for a tap in range; not offered to callers.
+pub fn candidate_at_unchecked(place: Place, position: usize, x: i64, y: i64) -> Candidate
     requires { ⌜ Size (pos tapLimit) x ⌝ }
     requires { ⌜ Size (pos tapLimit) y ⌝ }
     ensures { λ r. ⌜ r ≡ candidateAt x y place position ⌝ }
@@ -115,7 +117,7 @@ fn best_of(table: &[Place], x: i64, y: i64, squared_reach: u64) -> Best
     let mut k = 0;
     while k < table.len() {
         let place = table::place_at_unchecked(table, k);
-        let candidate = candidate_at(place, k, x, y);
+        let candidate = candidate_at_unchecked(place, k, x, y);
         if is_better(best, candidate, squared_reach) {
             best = Best::Found(candidate);
         }

@@ -1,33 +1,47 @@
--- Lines of places put into a buffer one behind the other. Assumes nothing.
-use mathlib.Core.Path.{_≡_, sym, ap, _∙_}
-use mathlib.Core.List.{List, _++_}
-use Prim.Native.Nat.{ℕ, _+_, _≤_, _<_}
+-- Lines put into a buffer one behind the other. Assumes nothing.
+use mathlib.Core.Path.{_≡_, refl, sym, ap, _∙_}
+use mathlib.Core.List.{List, [], _++_}
+use Prim.Native.Nat.{ℕ, _+_, _-_, _*_, _≤_, _<_}
 use native.Mathlib.Omega.{arith}
-use native.Mathlib.Numerals.{add-one}
-use lib.ListN.{length, getD, drop, length-append}
-use lib.Seq.{drop-cons}
-use Rattle.place.specs.declared.Place.{Place}
-use Rattle.place.specs.Places.{blankPlace}
+use lib.ListN.{length, drop, length-append}
 use Rattle.little_endian.specs.Numbers.{put}
-use Rattle.little_endian.proofs.Puts.{put-append}
-use Rattle.text.specs.Lines.{placeLine}
-use Rattle.programs.specs.Listing.{Stands, placeLines}
+use Rattle.little_endian.proofs.Puts.{put-append, put-none}
+use Rattle.text.specs.Lines.{lineSize}
+use Rattle.programs.specs.Listing.{Stands}
 
 -- a text that stands at the start of a buffer ends within it
 pub stands-within : (text before : List ℕ) {after : List ℕ} {end : ℕ} → Stands 0 text end before after → end ≤ length after
 unfolding put
 stands-within text before h = rw (h .1) (omega (arith, h .0, length-append text (drop (0 + length text) before)))
 
-module _ (ps : List Place) (k : ℕ) (h : k < length ps) where
-  abbrev next : List ℕ
-  next = placeLine (getD ps k blankPlace)
+-- the loop that puts a line at each of `count` turns, from `at` on; `left k` are the lines from turn k on
+module _ (left : ℕ → List ℕ) (count at : ℕ) (before : List ℕ) where
+  pub record PutSoFar (out : List ℕ) (to k : ℕ) : Type 0 where
+    pub in-turn : k ≤ count
+    pub as-long : length out ≡ length before
+    pub room : to + lineSize * (count - k) ≤ length before
+    pub ends : to + length (left k) ≡ at + length (left 0)
+    pub holds : put out to (left k) ≡ put before at (left 0)
 
-  lines-turn : placeLines (drop k ps) ≡ next ++ placeLines (drop (k + 1) ps)
-  lines-turn = rw (add-one k) (ap placeLines (drop-cons ps k blankPlace h))
+  pub none-put : at + lineSize * count ≤ length before → PutSoFar before at 0
+  none-put h = record { in-turn = omega arith; as-long = refl; room = omega arith; ends = refl; holds = refl }
 
-  pub length-turn : length (placeLines (drop k ps)) ≡ length next + length (placeLines (drop (k + 1) ps))
-  length-turn = ap length lines-turn ∙ length-append next (placeLines (drop (k + 1) ps))
+  module _ {out : List ℕ} {to k : ℕ} (p : PutSoFar out to k) where
+    pub line-room : k < count → to + lineSize ≤ length out
+    line-room h = omega arith
 
-  -- of the lines still to be put, one is put before the rest
-  pub put-turn : (out : List ℕ) (at : ℕ) → at + length next ≤ length out → put (put out at next) (at + length next) (placeLines (drop (k + 1) ps)) ≡ put out at (placeLines (drop k ps))
-  put-turn out at room = rw lines-turn (sym (put-append out at next room (placeLines (drop (k + 1) ps))))
+    -- a turn puts its line, and the others are left
+    pub one-put : (line out' : List ℕ) (end : ℕ) → k < count → left k ≡ line ++ left (k + 1) → length line ≤ lineSize → length out' ≡ length out → Stands to line end out out' → PutSoFar out' end (k + 1)
+    one-put line out' end h turn fits same s =
+        let n = ap length turn ∙ length-append line (left (k + 1)) in
+        let in-buffer : to + length line ≤ length out = omega arith in
+        record {
+          in-turn = omega arith;
+          as-long = same ∙ p .as-long;
+          room = omega (arith, s .0);
+          ends = omega (arith, s .0, p .ends);
+          holds = rw (s .0, s .1) (sym (put-append out to line in-buffer (left (k + 1)))) ∙ rw turn at (p .holds);
+        }
+
+    pub all-put : left k ≡ [] → Stands at (left 0) to before out
+    all-put none = (let e = rw none at (p .ends) in omega arith, rw (none, put-none) at (p .holds))

@@ -1,5 +1,7 @@
-// What the two programs print (document 01, 'Two programs'), by what they read: all that the lister prints of a file, and what the tap
+// What the lister and the tap program print (document 01, 'Two programs'), by what they read: all that the lister prints of a file, and what the tap
 // program prints at each part of its input.
+//
+// A function whose name ends in _unchecked is not offered to callers, as in trig.
 ghost use mathlib.Core.Path.{_≡_};
 ghost use Prim.Native.Nat.{_+_, _≤_, min};
 ghost use lib.ListN.{length};
@@ -40,17 +42,17 @@ pub fn listing(file: &[u8], out: &mut [u8; 65536]) -> usize
     match answer {
         FileAnswer::Atlas { count, sheet } => {
             let first = records::sheet_record_length(sheet);
-            let at = put_line(out, 0, text::count_line(count));
+            let at = put_line_unchecked(out, 0, text::count_line(count));
             put_places(out, at, file, first, count)
         }
         FileAnswer::Refused { refusal, offset } => {
-            put_line(out, 0, text::file_refused_line(refusal, offset))
+            put_line_unchecked(out, 0, text::file_refused_line(refusal, offset))
         }
     }
 }
 
-// Writes a line into a buffer from `at` on, and answers where it ends.
-fn put_line(out: &mut [u8], at: usize, line: Line) -> usize
+// Writes a line into a buffer from `at` on, and answers where it ends; not offered to callers.
+pub fn put_line_unchecked(out: &mut [u8], at: usize, line: Line) -> usize
     requires { ⌜ at + lineSize ≤ length (now out) ⌝ }
     ensures { λ r. ⌜ Stands at (textOf line) r (now (out .entry)) (now (out .exit)) ⌝ }
 {
@@ -74,7 +76,7 @@ fn put_places(out: &mut [u8], at: usize, file: &[u8], first: usize, count: usize
     let mut k = 0;
     while k < count {
         let place = atlas::place_of_unchecked(file, first, k);
-        to = put_line(out, to, text::place_line(place));
+        to = put_line_unchecked(out, to, text::place_line(place));
         k += 1;
     }
     to
@@ -126,7 +128,7 @@ pub fn answers(
     while k < end {
         let turn = feed(sheet, table, begun, input[k]);
         begun = turn.begun;
-        to = put_line(out, to, turn.printed);
+        to = put_line_unchecked(out, to, turn.printed);
         k += 1;
     }
     Answered {

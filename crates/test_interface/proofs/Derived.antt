@@ -2,4 +2,5 @@
 pub mod MelgowethTestReadReads
 pub mod MelgowethTestNearestReads
 pub mod MelgowethTestNearestInUsualReachReads
+pub mod MelgowethTestPlacesInReachReads
 pub mod MelgowethTestWriteReads

@@ -22,6 +22,7 @@ ghost use Rattle.atlas_file.specs.Writing.{writeReply};
 ghost use Rattle.atlas.specs.Tables.{tableAfter};
 ghost use Rattle.atlas.specs.Buffers.{writeReplyOf, bufferAfter};
 ghost use Rattle.lookup.specs.Lookups.{lookupReplyOf, placeAtReply, nearestPlaceReply};
+ghost use Rattle.within_reach.specs.Lists.{placesAfter, listReply, listReplyOf};
 ghost use Rattle.test_interface.specs.Stored.{sheetWith, sheetNumbers, stateWith, stateNumbers, placeNumbers, reply, wholes, fileOut, fileOutOf, lookupOut, lookupOutOf, stepOut, stepOutOf, offsetTaken, offsetReply};
 use atlas::WriteAnswer;
 use atlas_file::FileAnswer;
@@ -38,6 +39,7 @@ use refusal::Refusal;
 use sheet::Sheet;
 use sheet::Verdict;
 use trig::Answer;
+use within_reach::ListAnswer;
 
 #[no_mangle]
 pub extern "C" fn melgoweth_test_angle(a: i64, out: &mut [i64; 1]) -> u64
@@ -275,6 +277,22 @@ pub extern "C" fn melgoweth_test_nearest_in_usual_reach(
 {
     let answer = nearest::nearest_in_usual_reach(table, x, y);
     store_position(answer, out)
+}
+
+// out: the count.
+#[no_mangle]
+pub extern "C" fn melgoweth_test_places_in_reach(
+    table: &[Place],
+    x: i64,
+    y: i64,
+    reach: i64,
+    found: &mut [Place],
+    out: &mut [u64; 1],
+) -> u64
+    ensures { λ r. ⌜ (reply r (wholes (now (out .exit))) ≡ listReply (now (table .entry)) x y reach (length (now (found .entry)))) × (now (found .exit) ≡ placesAfter (now (table .entry)) x y reach (now (found .entry))) ⌝ }
+{
+    let answer = within_reach::places_in_reach(table, x, y, reach, found);
+    store_count(answer, out)
 }
 
 // out: the file's length.
@@ -549,6 +567,21 @@ fn store_position(answer: NearestAnswer, out: &mut [u64; 1]) -> u64
             0
         }
         NearestAnswer::Refused(r) => {
+            *out = [0];
+            number(r)
+        }
+    }
+}
+
+fn store_count(answer: ListAnswer, out: &mut [u64; 1]) -> u64
+    ensures { λ r. ⌜ reply r (wholes (now (out .exit))) ≡ listReplyOf answer ⌝ }
+{
+    match answer {
+        ListAnswer::Listed { count } => {
+            *out = [count as u64];
+            0
+        }
+        ListAnswer::Refused(r) => {
             *out = [0];
             number(r)
         }

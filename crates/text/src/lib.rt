@@ -6,7 +6,7 @@ ghost use Prim.Native.Nat.{_<_};
 ghost use lib.ListN.{length};
 ghost use Rattle.refusal.specs.Numbers.{numberOf};
 ghost use Rattle.text.specs.Decimals.{digit, decimal as digits, signed};
-ghost use Rattle.text.specs.Lines.{space, newline, countLine, placeLine, fileRefusedLine, foundLine, nothingFoundLine, refusedLine, lineOf, Holds, withByte, withText};
+ghost use Rattle.text.specs.Lines.{space, newline, countLine, placeLine, fileRefusedLine, foundLine, nothingFoundLine, refusedLine, crowdLine, lineOf, Holds, withByte, withText};
 ghost use Rattle.text.specs.TapLines.{beforeSpace, lineReply, lineReplyOf};
 ghost use Rattle.text.specs.Coordinates.{pointOf, coordinateOf, sizedCoordinate, withDigit, numeralOf};
 use place::Place;
@@ -86,6 +86,13 @@ pub fn refused_line(refusal: Refusal) -> Line
 {
     let number = with_number(end(), refusal::number(refusal) as u64);
     with_word(with_space(number), b"refused")
+}
+
+// A line of the crowding report: a place's id, and how many others lie within the usual reach of it.
+pub fn crowd_line(id: u32, others: usize) -> Line
+    ensures { λ r. ⌜ Holds r (crowdLine id others) ⌝ }
+{
+    with_number(with_space(with_number(end(), others as u64)), id as u64)
 }
 
 // What a tap's line says.

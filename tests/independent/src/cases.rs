@@ -480,8 +480,7 @@ fn name(random: &mut Random) -> [u8; 16] {
     name
 }
 
-/// Places on the sheet with rising ids.
-pub fn good_places(random: &mut Random, s: &Sheet, count: usize) -> Vec<Place> {
+fn rising_ids(random: &mut Random, count: usize) -> Vec<u32> {
     let mut ids: Vec<u32> = Vec::new();
     let mut id = random.pick(&[0, 0, 1, 7, 1 << 30]);
     while ids.len() < count {
@@ -491,20 +490,72 @@ pub fn good_places(random: &mut Random, s: &Sheet, count: usize) -> Vec<Place> {
     if count > 0 && random.once_in(8) {
         ids[count - 1] = u32::MAX;
     }
+    ids
+}
+
+/// The place at a position of a good sheet.
+fn place_on(random: &mut Random, s: &Sheet, id: u32, position: (i128, i128)) -> Place {
+    let (latitude, longitude) = position;
+    let [x, y] = forward(s, latitude, longitude).expect("a position on a good sheet");
+    Place {
+        id,
+        latitude: latitude as i32,
+        longitude: longitude as i32,
+        x: x as i32,
+        y: y as i32,
+        name: name(random),
+    }
+}
+
+/// Places at these positions of a good sheet, with rising ids.
+pub fn places_on(random: &mut Random, s: &Sheet, positions: &[(i128, i128)]) -> Vec<Place> {
+    let ids = rising_ids(random, positions.len());
+    ids.into_iter()
+        .zip(positions)
+        .map(|(id, &position)| place_on(random, s, id, position))
+        .collect()
+}
+
+/// Places on the sheet with rising ids.
+pub fn good_places(random: &mut Random, s: &Sheet, count: usize) -> Vec<Place> {
+    let ids = rising_ids(random, count);
     ids.into_iter()
         .map(|id| {
-            let (latitude, longitude) = position_on(random, s);
-            let [x, y] = forward(s, latitude, longitude).expect("a position on a good sheet");
-            Place {
-                id,
-                latitude: latitude as i32,
-                longitude: longitude as i32,
-                x: x as i32,
-                y: y as i32,
-                name: name(random),
-            }
+            let position = position_on(random, s);
+            place_on(random, s, id, position)
         })
         .collect()
+}
+
+/// Places on the sheet, each off one of so many spots by no more than `spread`
+/// units of latitude and of longitude.
+pub fn crowded_places(
+    random: &mut Random,
+    s: &Sheet,
+    count: usize,
+    spots: usize,
+    spread: i128,
+) -> Vec<Place> {
+    let spots: Vec<_> = (0..spots).map(|_| position_on(random, s)).collect();
+    let positions: Vec<_> = (0..count)
+        .map(|_| {
+            let (latitude, longitude) = random.pick(&spots);
+            let latitude = latitude + random.range(-spread, spread);
+            let d = model::offset(s, longitude) + random.range(-spread, spread);
+            let longitude = shifted(s.m0 + d.clamp(-s.w, s.w));
+            (latitude.clamp(s.fs, s.fn_), longitude)
+        })
+        .collect();
+    places_on(random, s, &positions)
+}
+
+/// A position of a good sheet whose map point is exactly x, y.
+pub fn position_at(s: &Sheet, x: i128, y: i128) -> Option<(i128, i128)> {
+    let [latitude, longitude] = model::inverse(s, x, y).ok()?;
+    let beside = (-3..=3).flat_map(|north| (-3..=3).map(move |east| (north, east)));
+    beside
+        .map(|(north, east)| (latitude + north, shifted(longitude + east)))
+        .find(|&(latitude, longitude)| forward(s, latitude, longitude) == Ok([x, y]))
 }
 
 /// Places of any content, as a table's filling.

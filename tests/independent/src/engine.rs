@@ -82,6 +82,16 @@ extern "C" {
         y: i64,
         out: *mut u64,
     ) -> u64;
+    fn melgoweth_test_places_in_reach(
+        table: *const Place,
+        count: usize,
+        x: i64,
+        y: i64,
+        reach: i64,
+        found: *mut Place,
+        room: usize,
+        out: *mut u64,
+    ) -> u64;
     fn melgoweth_test_place_at(
         bytes: *const u8,
         length: usize,
@@ -272,6 +282,30 @@ pub fn nearest_in_usual_reach(table: &[Place], x: i64, y: i64) -> (u64, u64) {
     let mut out = [RUBBISH_U];
     let refusal = unsafe {
         melgoweth_test_nearest_in_usual_reach(table.as_ptr(), table.len(), x, y, out.as_mut_ptr())
+    };
+    (refusal, out[0])
+}
+
+/// The refusal's number and the count; the list is in `found`.
+pub fn places_in_reach(
+    table: &[Place],
+    x: i64,
+    y: i64,
+    reach: i64,
+    found: &mut [Place],
+) -> (u64, u64) {
+    let mut out = [RUBBISH_U];
+    let refusal = unsafe {
+        melgoweth_test_places_in_reach(
+            table.as_ptr(),
+            table.len(),
+            x,
+            y,
+            reach,
+            found.as_mut_ptr(),
+            found.len(),
+            out.as_mut_ptr(),
+        )
     };
     (refusal, out[0])
 }

@@ -25,7 +25,8 @@ pub fn pair(answer: Answer<[i128; 2]>) -> (u64, [i64; 2]) {
     }
 }
 
-fn single(answer: Answer<usize>) -> (u64, u64) {
+/// An answer of one number as the interface gives it.
+pub fn single(answer: Answer<usize>) -> (u64, u64) {
     match answer {
         Ok(number) => (0, number as u64),
         Err(number) => (number, 0),

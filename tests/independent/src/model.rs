@@ -1,5 +1,6 @@
-//! Document 01, "The intended build and its rules", in its own words and order.
-//! What it leaves open is as `docs/DECISIONS.md` has it.
+//! Document 01, "The intended build and its rules", in its own words and order,
+//! with request E2 of document 02 where it belongs. What they leave open is as
+//! `docs/DECISIONS.md` has it.
 //!
 //! Whole numbers are 128 bits wide, so that nothing can wrap. Division of
 //! whole numbers in Rust drops the fraction toward zero: it is the document's
@@ -491,11 +492,17 @@ pub fn squared_distance(place: &Place, x: i128, y: i128) -> i128 {
     dx * dx + dy * dy
 }
 
-/// The table position of the nearest place.
-pub fn nearest(table: &[Place], x: i128, y: i128, reach: i128) -> Answer<usize> {
+/// Whether a tap is in range: 12.
+fn check_tap(x: i128, y: i128, reach: i128) -> Answer<()> {
     if x.abs() > MAP_LIMIT || y.abs() > MAP_LIMIT || !(0..=MOST_REACH).contains(&reach) {
         return Err(12);
     }
+    Ok(())
+}
+
+/// The table position of the nearest place.
+pub fn nearest(table: &[Place], x: i128, y: i128, reach: i128) -> Answer<usize> {
+    check_tap(x, y, reach)?;
     (0..table.len())
         .filter(|&i| squared_distance(&table[i], x, y) <= reach * reach)
         .min_by_key(|&i| (squared_distance(&table[i], x, y), table[i].id, i))
@@ -514,7 +521,36 @@ pub fn nearest_place(
     Ok((position, places[position]))
 }
 
-// ---- Two programs
+/// The table positions of all places within reach, each once: by squared
+/// distance, then id, then table position.
+pub fn positions_in_reach(table: &[Place], x: i128, y: i128, reach: i128) -> Answer<Vec<usize>> {
+    check_tap(x, y, reach)?;
+    let mut positions: Vec<usize> = (0..table.len())
+        .filter(|&i| squared_distance(&table[i], x, y) <= reach * reach)
+        .collect();
+    positions.sort_by_key(|&i| (squared_distance(&table[i], x, y), table[i].id, i));
+    Ok(positions)
+}
+
+/// The places of this list into a lent table, and their count.
+pub fn places_in_reach(
+    table: &[Place],
+    x: i128,
+    y: i128,
+    reach: i128,
+    found: &mut [Place],
+) -> Answer<usize> {
+    let positions = positions_in_reach(table, x, y, reach)?;
+    if positions.len() > found.len() {
+        return Err(10);
+    }
+    for (entry, &i) in found.iter_mut().zip(&positions) {
+        *entry = table[i];
+    }
+    Ok(positions.len())
+}
+
+// ---- Two programs, and the crowding report
 
 /// What the lister prints for this standard input.
 pub fn lister(input: &[u8]) -> String {
@@ -524,6 +560,29 @@ pub fn lister(input: &[u8]) -> String {
             let mut text = format!("places {}\n", places.len());
             for p in places {
                 text += &format!("{} {} {} {} {}\n", p.id, p.latitude, p.longitude, p.x, p.y);
+            }
+            text
+        }
+    }
+}
+
+/// How many other places lie within the usual reach of the one at a position.
+fn others_near(places: &[Place], position: usize) -> usize {
+    let (x, y) = (places[position].x.into(), places[position].y.into());
+    let others = places.iter().enumerate().filter(|&(i, _)| i != position);
+    others
+        .filter(|(_, other)| squared_distance(other, x, y) <= USUAL_REACH * USUAL_REACH)
+        .count()
+}
+
+/// What the crowding report prints for this standard input.
+pub fn crowding(input: &[u8]) -> String {
+    match read(input, MOST_PLACES as u64) {
+        Err((number, at)) => format!("refused {number} at {at}\n"),
+        Ok((_, places)) => {
+            let mut text = String::new();
+            for (i, p) in places.iter().enumerate() {
+                text += &format!("{} {}\n", p.id, others_near(&places, i));
             }
             text
         }

@@ -1,4 +1,4 @@
-//! The groups that run the two programs and compare what they print.
+//! The groups that run the programs and compare what they print.
 
 use crate::cases::*;
 use crate::groups::{mill, Compared};
@@ -15,6 +15,9 @@ use std::time::{Duration, Instant};
 
 /// How long a program may take before it counts as hanging.
 const PATIENCE: Duration = Duration::from_secs(20);
+
+/// A file accepted, and its refusals.
+const FILE_NUMBERS: &[u64] = &[0, 1, 2, 3, 4, 5, 6, 7, 8, 9, 10, 14];
 
 /// A folder of its own, removed in the end.
 struct Folder(PathBuf);
@@ -205,19 +208,36 @@ fn refusal_in(text: &str) -> u64 {
     number.map_or(0, |number| number.expect("a number"))
 }
 
-// ---- 9: the lister
+// ---- 9 and 15: the lister and the crowding report
 
-struct Lister<'a> {
+/// A program that reads an atlas file on standard input and prints a text.
+struct FileProgram<'a> {
+    name: &'static str,
     program: &'a Path,
-    folder: &'a Path,
+    folder: Folder,
+    model: fn(&[u8]) -> String,
     tally: Tally,
 }
 
-impl Lister<'_> {
+impl<'a> FileProgram<'a> {
+    fn new(
+        name: &'static str,
+        program: &'a Path,
+        model: fn(&[u8]) -> String,
+    ) -> Result<Self, String> {
+        Ok(FileProgram {
+            name,
+            program,
+            folder: Folder::new(name).map_err(|error| error.to_string())?,
+            model,
+            tally: Tally::new(name),
+        })
+    }
+
     fn compare(&mut self, bytes: &[u8], input: Input) -> Outcome {
-        let expected = model::lister(bytes);
-        let got = output(self.program, self.folder, input)
-            .map_err(|error| format!("lister: {error}\n  input: {bytes:?}"))?;
+        let expected = (self.model)(bytes);
+        let got = output(self.program, &self.folder.0, input)
+            .map_err(|error| format!("{}: {error}\n  input: {bytes:?}", self.name))?;
         let number = refusal_in(&expected);
         self.tally
             .same(number, expected, text(&got), || format!("{bytes:?}"))
@@ -228,59 +248,53 @@ impl Lister<'_> {
     }
 }
 
-pub fn lister(program: &Path) -> Compared {
-    let group = Group::new("9 lister");
-    let mut random = Random::new(9);
+/// Good, cut, longer and damaged files, and input in pieces, from a file, held
+/// open or none.
+fn files_of_all_kinds(p: &mut FileProgram, random: &mut Random) -> Outcome {
     let error = |error: io::Error| error.to_string();
-    let folder = Folder::new("lister").map_err(error)?;
-    let mut l = Lister {
-        program,
-        folder: &folder.0,
-        tally: Tally::new("runs"),
-    };
     let mill_file = file_of(&A, &[mill()]);
     for cut in 0..=mill_file.len() {
-        l.bytes(&mill_file[..cut])?;
+        p.bytes(&mill_file[..cut])?;
     }
     for count in [0, 1, 2, 5, 50, 999, 1_000, 1_001] {
-        let bytes = good_file(&mut random, count);
-        l.bytes(&bytes)?;
+        let bytes = good_file(random, count);
+        p.bytes(&bytes)?;
         for more in [1, 2, 37, 5_000, 200_000] {
             let mut longer = bytes.clone();
             longer.extend(vec![2; more]);
-            l.bytes(&longer)?;
+            p.bytes(&longer)?;
         }
-        l.bytes(&bytes[..bytes.len() - 1])?;
-        l.bytes(&bytes[..bytes.len() / 2])?;
-        l.compare(&bytes, Input::Pieces(&bytes, &[1, 4_096, 7, 8_192, 37]))?;
-        let path = folder.0.join("input");
+        p.bytes(&bytes[..bytes.len() - 1])?;
+        p.bytes(&bytes[..bytes.len() / 2])?;
+        p.compare(&bytes, Input::Pieces(&bytes, &[1, 4_096, 7, 8_192, 37]))?;
+        let path = p.folder.0.join("input");
         fs::write(&path, &bytes).map_err(error)?;
         let file = File::open(&path).map_err(error)?;
-        l.compare(&bytes, Input::FromFile(file))?;
+        p.compare(&bytes, Input::FromFile(file))?;
     }
     for _ in 0..1_200 {
         let count = random.index(6);
-        let bytes = damaged_file(&mut random, count);
-        l.bytes(&bytes)?;
+        let bytes = damaged_file(random, count);
+        p.bytes(&bytes)?;
     }
     for count in [0, 1, 5, 20] {
-        let bytes = good_file(&mut random, count);
-        l.compare(&bytes, Input::SingleBytes(&bytes))?;
-        l.compare(&bytes[..count], Input::SingleBytes(&bytes[..count]))?;
+        let bytes = good_file(random, count);
+        p.compare(&bytes, Input::SingleBytes(&bytes))?;
+        p.compare(&bytes[..count], Input::SingleBytes(&bytes[..count]))?;
     }
     // 37,043 bytes decide, whether or not more may come.
-    let mut long = good_file(&mut random, 1_000);
+    let mut long = good_file(random, 1_000);
     long.push(3);
-    l.compare(&long, Input::HeldOpen(&long))?;
+    p.compare(&long, Input::HeldOpen(&long))?;
     // And no more are read, though they are there.
-    let path = folder.0.join("longer");
+    let path = p.folder.0.join("longer");
     long.resize(200_000, 3);
     fs::write(&path, &long).map_err(error)?;
     let file = File::open(&path).map_err(error)?;
     let mut same = file.try_clone().map_err(error)?;
-    l.compare(&long, Input::FromFile(file))?;
+    p.compare(&long, Input::FromFile(file))?;
     let read = same.stream_position().map_err(error)?;
-    l.tally
+    p.tally
         .holds(3, read == 37_043, || format!("{read} bytes are read"))?;
     // The least and the largest id, and the least longitude, as text
     let sheet = Sheet {
@@ -291,17 +305,153 @@ pub fn lister(program: &Path) -> Compared {
     place.longitude = -180_000_000;
     for id in [0, 1, 10, 4_294_967_295] {
         place.id = id;
-        l.bytes(&file_of(&sheet, &[place]))?;
+        p.bytes(&file_of(&sheet, &[place]))?;
     }
     // No input at all, a folder as input, endless zeros
-    l.compare(&[], Input::Closed)?;
-    let here = File::open(&folder.0).map_err(error)?;
-    l.compare(&[], Input::FromFile(here))?;
+    p.compare(&[], Input::Closed)?;
+    let here = File::open(&p.folder.0).map_err(error)?;
+    p.compare(&[], Input::FromFile(here))?;
     let zeros = File::open("/dev/zero").map_err(error)?;
-    l.compare(&[0; 40_000], Input::FromFile(zeros))?;
+    p.compare(&[0; 40_000], Input::FromFile(zeros))
+}
 
-    let all: &[u64] = &[0, 1, 2, 3, 4, 5, 6, 7, 8, 9, 10, 14];
-    group.finish(&[(&l.tally, all)], &Features::new(&[]))
+pub fn lister(program: &Path) -> Compared {
+    let group = Group::new("9 lister");
+    let mut p = FileProgram::new("lister", program, model::lister)?;
+    files_of_all_kinds(&mut p, &mut Random::new(9))?;
+    group.finish(&[(&p.tally, FILE_NUMBERS)], &Features::new(&[]))
+}
+
+const CROWDING_FEATURES: [&str; 7] = [
+    "places alone",
+    "places with others near",
+    "places with 100 others near and more",
+    "places with 999 others near",
+    "pairs on one point",
+    "pairs exactly in reach",
+    "pairs a squared unit out of reach",
+];
+
+/// Compares the report of a good file, and counts what is in it.
+fn compare_report(
+    p: &mut FileProgram,
+    features: &mut Features,
+    s: &Sheet,
+    places: &[Place],
+) -> Outcome {
+    let reach = model::USUAL_REACH * model::USUAL_REACH;
+    for (k, a) in places.iter().enumerate() {
+        let squared = |b: &Place| model::squared_distance(b, a.x.into(), a.y.into());
+        let near = places.iter().filter(|b| squared(b) <= reach).count() - 1;
+        let is = [near == 0, near > 0, near >= 100, near == 999];
+        for (name, is) in CROWDING_FEATURES.iter().zip(is) {
+            features.count(name, is);
+        }
+        for b in &places[..k] {
+            let apart = [0, reach, reach + 1];
+            for (name, apart) in CROWDING_FEATURES[4..].iter().zip(apart) {
+                features.count(name, squared(b) == apart);
+            }
+        }
+    }
+    p.bytes(&file_of(s, places))
+}
+
+/// Reports that were worked out by hand, on the model and the program.
+fn worked_reports(p: &mut FileProgram, features: &mut Features) -> Outcome {
+    // On the central meridian, where a unit of latitude is one of y
+    let north = |id, units| Place {
+        id,
+        latitude: 31_000_000 + units,
+        y: 1_000_000 + units,
+        ..mill()
+    };
+    let one_point = [north(1, 0), north(5, 0), north(4_294_967_295, 0)];
+    let row = [
+        north(0, 0),
+        north(2, 50_000),
+        north(3, 100_001),
+        north(10, 150_000),
+        north(11, 199_999),
+        north(12, 250_000),
+    ];
+    let reports: [(&[Place], &str); 4] = [
+        (&[], ""),
+        (&[mill()], "7 0\n"),
+        (&one_point, "1 2\n5 2\n4294967295 2\n"),
+        (&row, "0 1\n2 1\n3 1\n10 2\n11 1\n12 0\n"),
+    ];
+    for (places, report) in reports {
+        let got = model::crowding(&file_of(&A, places));
+        p.tally
+            .same(0, report.to_string(), got, || format!("{places:?}"))?;
+        compare_report(p, features, &A, places)?;
+    }
+    Ok(())
+}
+
+/// A place and others around it, exactly at the usual reach, a squared unit
+/// out of it, and a unit off in one coordinate, as far as the sheet has such
+/// map points.
+fn places_at_the_reach(random: &mut Random, s: &Sheet) -> Vec<Place> {
+    let (latitude, longitude) = position_on(random, s);
+    let [x, y] = model::forward(s, latitude, longitude).expect("a position on a good sheet");
+    let mut positions = vec![(latitude, longitude)];
+    for (dx, dy) in [
+        (50_000, 0),
+        (0, -50_000),
+        (30_000, 40_000),
+        (-40_000, 30_000),
+        (-14_000, -48_000),
+        (50_000, 1),
+        (-1, 50_000),
+        (-30_001, 40_000),
+        (0, 50_001),
+        (-49_999, 0),
+    ] {
+        positions.extend(position_at(s, x + dx, y + dy));
+    }
+    places_on(random, s, &positions)
+}
+
+pub fn crowding(program: &Path) -> Compared {
+    let group = Group::new("15 crowding");
+    let mut random = Random::new(15);
+    let mut p = FileProgram::new("crowding", program, model::crowding)?;
+    let mut features = Features::new(&CROWDING_FEATURES);
+    files_of_all_kinds(&mut p, &mut random)?;
+
+    p.bytes(include_bytes!("../../../samples/atlas.bin"))?;
+    worked_reports(&mut p, &mut features)?;
+    for _ in 0..100 {
+        let s = match random.once_in(2) {
+            true => A,
+            false => good_sheet(&mut random),
+        };
+        let places = places_at_the_reach(&mut random, &s);
+        compare_report(&mut p, &mut features, &s, &places)?;
+    }
+    // Crowds on one spot, on a few, and around them
+    for (count, spots, spread) in [
+        (1_000, 1, 0),
+        (999, 1, 0),
+        (1_000, 16, 0),
+        (1_000, 1, 30_000),
+        (1_000, 16, 60_000),
+        (1_000, 100, 400_000),
+    ] {
+        let places = crowded_places(&mut random, &A, count, spots, spread);
+        compare_report(&mut p, &mut features, &A, &places)?;
+    }
+    for _ in 0..300 {
+        let s = good_sheet(&mut random);
+        let count = random.pick(&[1, 2, 3, 10, 40, 150]);
+        let spots = random.pick(&[1, 2, 5, 20]);
+        let spread = random.pick(&[0, 1, 1_000, 30_000, 60_000, 200_000]);
+        let places = crowded_places(&mut random, &s, count, spots, spread);
+        compare_report(&mut p, &mut features, &s, &places)?;
+    }
+    group.finish(&[(&p.tally, FILE_NUMBERS)], &features)
 }
 
 // ---- 10: the tap program
@@ -696,6 +846,8 @@ pub fn tap(program: &Path) -> Compared {
     t.runs
         .same(1, 0, position, || "input read after a refusal".to_string())?;
 
-    let all: &[u64] = &[0, 1, 2, 3, 4, 5, 6, 7, 8, 9, 10, 14];
-    group.finish(&[(&t.runs, all), (&t.lines, &[0, 11, 12])], &features)
+    group.finish(
+        &[(&t.runs, FILE_NUMBERS), (&t.lines, &[0, 11, 12])],
+        &features,
+    )
 }

@@ -11,7 +11,7 @@ use denote.Ref.{now}
 use lib.ListN.{length, getD, take, drop, length-set}
 use Rattle.place.specs.Places.{blankPlace}
 use Rattle.atlas_file.specs.Reading.{Reading, placesRead}
-use Rattle.atlas.proofs.Entries.{one-more, all-stored}
+use Rattle.table.proofs.Entries.{one-more, all-stored}
 use Rattle.atlas.proofs.FilePlaces.{other-room, with-most, accepted-count}
 use Rattle.atlas.proofs.store_places.Statement.{statement}
 use Rattle.atlas.proofs.store_places.Proof.Tie as tie

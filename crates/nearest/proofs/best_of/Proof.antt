@@ -31,8 +31,8 @@ loop-holds c = (search needs, refl)
 place-at-unchecked-requires : tie.Need-place-at-unchecked-requires Inv-loop μ-loop
 place-at-unchecked-requires c κs = search needs
 
-candidate-at-requires : tie.Need-candidate-at-requires Inv-loop μ-loop
-candidate-at-requires c κs = search needs
+candidate-at-unchecked-requires : tie.Need-candidate-at-unchecked-requires Inv-loop μ-loop
+candidate-at-unchecked-requires c κs = search needs
 
 is-better-requires : tie.Need-is-better-requires Inv-loop μ-loop
 is-better-requires c κs = search needs
@@ -47,7 +47,7 @@ loop-again : tie.Need-loop-again Inv-loop μ-loop
 loop-again c =
     let d = c .before .before in
     let l = d .before .before .before .loop in
-    let e = d .candidate-at .ensures in
+    let e = d .candidate-at-unchecked .ensures in
     let i = c .before .is-better .ensures in
     let after = ⊎-elim
     (λ w. best-after _ _ _ (l .best) (c .if1 .best) _ (l .k) _ true e (sym (w .0 .taken) ∙ i) (w .1))
@@ -61,4 +61,4 @@ returns c =
     rw (toZ-ofZ (s .fits .x), toZ-ofZ (s .fits .y)) at (fold-done _ _ _ _ _ _ _ (omega arith) (omega arith) (c .before .loop .inv .1))
 
 pub best-of-spec : {M : Type 1} → statement M
-best-of-spec = tie.close (tie.spec Inv-loop μ-loop loop-holds place-at-unchecked-requires candidate-at-requires is-better-requires add-k loop-less loop-again returns)
+best-of-spec = tie.close (tie.spec Inv-loop μ-loop loop-holds place-at-unchecked-requires candidate-at-unchecked-requires is-better-requires add-k loop-less loop-again returns)

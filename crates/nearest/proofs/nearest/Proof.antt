@@ -20,8 +20,8 @@ in-range-is c = let f = c .before .fits in rw (toZ-ofZ (f .x), toZ-ofZ (f .y), t
 in-range : (c : tie.Then1) → let a = c .before .before .args in tapInRange (a .x) (a .y) (a .reach) ≡ true
 in-range c = sym (in-range-is (c .before)) ∙ c .if1 .taken
 
-square-requires : tie.Need-square-requires
-square-requires c κs = let s = c .before .before in rw (toZ-ofZ (s .fits .reach)) (tap-sizes (s .args .x) (s .args .y) (s .args .reach) (in-range c) .2)
+square-unchecked-requires : tie.Need-square-unchecked-requires
+square-unchecked-requires c κs = let s = c .before .before in rw (toZ-ofZ (s .fits .reach)) (tap-sizes (s .args .x) (s .args .y) (s .args .reach) (in-range c) .2)
 
 best-of-requires : tie.Need-best-of-requires
 best-of-requires c κs =
@@ -38,7 +38,7 @@ returns c =
     let b = c .before in
     let q = b .before in
     let s = q .before .before .before in
-    let best = rw (q .square .ensures, toZ-ofZ (s .fits .x), toZ-ofZ (s .fits .y), toZ-ofZ (s .fits .reach)) at (b .best-of .ensures) in
+    let best = rw (q .square-unchecked .ensures, toZ-ofZ (s .fits .x), toZ-ofZ (s .fits .y), toZ-ofZ (s .fits .reach)) at (b .best-of .ensures) in
     rw (in-range (q .before)) (c .answer-of .ensures ∙ ap bestReply best)
 
 returns-2 : tie.Need-returns-2
@@ -46,4 +46,4 @@ unfolding nearestReply
 returns-2 c = rw (sym (in-range-is (c .before)) ∙ c .if1 .left)
 
 pub nearest-spec : {M : Type 1} → statement M
-nearest-spec = tie.close (tie.spec tap-in-range-requires square-requires best-of-requires answer-of-requires returns returns-2)
+nearest-spec = tie.close (tie.spec tap-in-range-requires square-unchecked-requires best-of-requires answer-of-requires returns returns-2)

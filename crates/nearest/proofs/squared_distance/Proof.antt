@@ -26,38 +26,38 @@ tap-x c = c .before .before .pre .0
 tap-y : (c : tie.After-struct-told2) → Size (pos tapLimit) (c .before .before .before .before .before .args .y)
 tap-y c = c .before .before .before .before .before .pre .1
 
-cast-square : tie.Need-cast-square
-cast-square c = fits (param (x-fits c)) tt
+cast-square-unchecked : tie.Need-cast-square-unchecked
+cast-square-unchecked c = fits (param (x-fits c)) tt
 
-sub-square : tie.Need-sub-square
-sub-square c = fits (difference (x-fits c) (tap-x c)) tt
+sub-square-unchecked : tie.Need-sub-square-unchecked
+sub-square-unchecked c = fits (difference (x-fits c) (tap-x c)) tt
 
-square-requires : tie.Need-square-requires
-square-requires c κs = rw (difference-is (x-fits c) (tap-x c)) (difference-most (x-fits c) (tap-x c))
+square-unchecked-requires : tie.Need-square-unchecked-requires
+square-unchecked-requires c κs = rw (difference-is (x-fits c) (tap-x c)) (difference-most (x-fits c) (tap-x c))
 
-cast-square-2 : tie.Need-cast-square-2
-cast-square-2 c = fits (param (y-fits c)) tt
+cast-square-unchecked-2 : tie.Need-cast-square-unchecked-2
+cast-square-unchecked-2 c = fits (param (y-fits c)) tt
 
-sub-square-2 : tie.Need-sub-square-2
-sub-square-2 c = fits (difference (y-fits c) (tap-y c)) tt
+sub-square-unchecked-2 : tie.Need-sub-square-unchecked-2
+sub-square-unchecked-2 c = fits (difference (y-fits c) (tap-y c)) tt
 
-square-requires-2 : tie.Need-square-requires-2
-square-requires-2 c κs = rw (difference-is (y-fits c) (tap-y c)) (difference-most (y-fits c) (tap-y c))
+square-unchecked-requires-2 : tie.Need-square-unchecked-requires-2
+square-unchecked-requires-2 c κs = rw (difference-is (y-fits c) (tap-y c)) (difference-most (y-fits c) (tap-y c))
 
 -- ---- the two squares
 
-module _ (c : tie.After-square2) where
+module _ (c : tie.After-square-unchecked2) where
   abbrev at-x : tie.After-struct-told
   at-x = c .before .before .before .before
 
   abbrev at-y : tie.After-struct-told2
   at-y = c .before
 
-  x-is : c .before .before .before .square .result ≡ squared (at-x .before .before .args .place .«x» -ℤ at-x .before .before .args .x)
-  x-is = rw (difference-is (x-fits at-x) (tap-x at-x)) at (c .before .before .before .square .ensures)
+  x-is : c .before .before .before .square-unchecked .result ≡ squared (at-x .before .before .args .place .«x» -ℤ at-x .before .before .args .x)
+  x-is = rw (difference-is (x-fits at-x) (tap-x at-x)) at (c .before .before .before .square-unchecked .ensures)
 
-  y-is : c .square2 .result ≡ squared (at-x .before .before .args .place .«y» -ℤ at-x .before .before .args .y)
-  y-is = rw (difference-is (y-fits at-y) (tap-y at-y)) at (c .square2 .ensures)
+  y-is : c .square-unchecked2 .result ≡ squared (at-x .before .before .args .place .«y» -ℤ at-x .before .before .args .y)
+  y-is = rw (difference-is (y-fits at-y) (tap-y at-y)) at (c .square-unchecked2 .ensures)
 
 add-result : tie.Need-add-result
 add-result c =
@@ -73,11 +73,11 @@ pub squared-distance-spec : {M : Type 1} → statement M
 squared-distance-spec =
     tie.close
     (tie.spec
-    cast-square
-    sub-square
-    square-requires
-    cast-square-2
-    sub-square-2
-    square-requires-2
+    cast-square-unchecked
+    sub-square-unchecked
+    square-unchecked-requires
+    cast-square-unchecked-2
+    sub-square-unchecked-2
+    square-unchecked-requires-2
     add-result
     returns)

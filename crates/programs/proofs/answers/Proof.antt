@@ -40,8 +40,8 @@ shared-slice-read-feed c = search needs
 feed-requires : tie.Need-feed-requires Inv-loop μ-loop
 feed-requires c κs = search needs
 
-put-line-requires : tie.Need-put-line-requires Inv-loop μ-loop
-put-line-requires c κs = let l = c .before .before .before .before .before .loop in omega (arith, l .inv)
+put-line-unchecked-requires : tie.Need-put-line-unchecked-requires Inv-loop μ-loop
+put-line-unchecked-requires c κs = let l = c .before .before .before .before .before .loop in omega (arith, l .inv)
 
 add-k : tie.Need-add-k Inv-loop μ-loop
 add-k c = search needs
@@ -59,8 +59,8 @@ loop-again c =
     let begun-is = f .feed .ensures .0 in
     let fits = f .feed .ensures .1 .0 in
     let text = held-text _ _ (f .feed .ensures .1) in
-    let r = rw text at (c .put-line .ensures .0) in
-    let o = rw text at (c .put-line .ensures .1) in
+    let r = rw text at (c .put-line-unchecked .ensures .0) in
+    let o = rw text at (c .put-line-unchecked .ensures .1) in
     let turn = printed-turn (l .begun) input (l .k) below (a .sheet) (now (a .table)) in
     let next = printedAt (a .sheet) (now (a .table)) (l .begun) (getD input (l .k) 0) in
     let room : l .to + length next ≤ length (l .out) = omega (arith, fits, l .inv) in
@@ -81,4 +81,4 @@ returns c =
     (rw none at (l .inv .4), (let e = rw none at (l .inv .5) in omega (arith, e), rw (none, put-none) at (l .inv .6)))
 
 pub answers-spec : {M : Type 1} → statement M
-answers-spec = tie.close (tie.spec Inv-loop μ-loop least-requires loop-holds shared-slice-read-feed feed-requires put-line-requires add-k loop-less loop-again returns)
+answers-spec = tie.close (tie.spec Inv-loop μ-loop least-requires loop-holds shared-slice-read-feed feed-requires put-line-unchecked-requires add-k loop-less loop-again returns)

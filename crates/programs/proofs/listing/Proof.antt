@@ -28,30 +28,30 @@ sheet-record-length-requires c κs = search needs
 count-line-requires : tie.Need-count-line-requires
 count-line-requires c κs = search needs
 
-put-line-requires : tie.Need-put-line-requires
-put-line-requires c κs = search needs
+put-line-unchecked-requires : tie.Need-put-line-unchecked-requires
+put-line-unchecked-requires c κs = search needs
 
 -- the file is accepted, with the count of the answer
 told : (c : tie.After-answer) → acceptedFile (c .answer .given .0 .0) (c .answer .given .0 .1 .0) ≡ readReply (now (c .before .before .before .before .args .file)) mostPlaces
 told c = rw (c .answer .given .1) at (c .before .before .read-through .ensures)
 
 -- the first line is put
-module _ (c : tie.After-put-line) where
+module _ (c : tie.After-put-line-unchecked) where
   abbrev first : ℕ
   first = c .before .before .before .before .before .answer .given .0 .0
 
   line : length (countLine first) ≤ lineSize
   line = c .before .count-line .ensures .0
 
-  ends : c .put-line .result ≡ 0 + length (countLine first)
-  ends = rw (held-text _ _ (c .before .count-line .ensures)) at (c .put-line .ensures .0)
+  ends : c .put-line-unchecked .result ≡ 0 + length (countLine first)
+  ends = rw (held-text _ _ (c .before .count-line .ensures)) at (c .put-line-unchecked .ensures .0)
 
 put-places-requires : tie.Need-put-places-requires
 put-places-requires c κs =
     let p = c .before in
     let a = p .before .before .before .before .before in
     let is = told a in
-    (omega (arith, ends p, line p, p .put-line .kept .0), accepted-file is (p .before .before .before .sheet-record-length .ensures), ap (λ (X : FileReply). X .count) is)
+    (omega (arith, ends p, line p, p .put-line-unchecked .kept .0), accepted-file is (p .before .before .before .sheet-record-length .ensures), ap (λ (X : FileReply). X .count) is)
 
 enum-known-answer-2 : tie.Need-enum-known-answer-2
 enum-known-answer-2 c = search needs
@@ -59,19 +59,19 @@ enum-known-answer-2 c = search needs
 file-refused-line-requires : tie.Need-file-refused-line-requires
 file-refused-line-requires c κs = search needs
 
-put-line-requires-2 : tie.Need-put-line-requires-2
-put-line-requires-2 c κs = search needs
+put-line-unchecked-requires-2 : tie.Need-put-line-unchecked-requires-2
+put-line-unchecked-requires-2 c κs = search needs
 
 returns : tie.Need-returns
 unfolding listingOf
 returns c =
     let p = c .before .before in
     let a = p .before .before .before .before .before in
-    let o = rw (held-text _ _ (p .before .count-line .ensures)) at (p .put-line .ensures .1) in
+    let o = rw (held-text _ _ (p .before .count-line .ensures)) at (p .put-line-unchecked .ensures .1) in
     let e = c .put-places .ensures in
     let lines = placeLines (placesRead (now (a .before .before .before .before .args .file)) mostPlaces) in
     rw (← (told a))
-    (omega (arith, e .0, ends p, length-append (countLine (first p)) lines), e .1 ∙ rw (o, ends p) (sym (put-append _ 0 (countLine (first p)) (omega (arith, line p, p .put-line .kept .0)) lines)))
+    (omega (arith, e .0, ends p, length-append (countLine (first p)) lines), e .1 ∙ rw (o, ends p) (sym (put-append _ 0 (countLine (first p)) (omega (arith, line p, p .put-line-unchecked .kept .0)) lines)))
 
 returns-2 : tie.Need-returns-2
 unfolding listingOf
@@ -79,7 +79,7 @@ returns-2 c =
     let f = c .before in
     let a = f .before .before .before in
     let t = held-text _ _ (f .file-refused-line .ensures) in
-    let e = c .put-line2 .ensures in
+    let e = c .put-line-unchecked2 .ensures in
     rw (← (rw (a .answer2 .given .1) at (a .before .before .read-through .ensures)), not-zero (a .answer2 .given .0 .0))
     (let n = rw t at (e .0) in omega (arith, n), rw t at (e .1))
 
@@ -91,10 +91,10 @@ listing-spec =
     enum-known-answer
     sheet-record-length-requires
     count-line-requires
-    put-line-requires
+    put-line-unchecked-requires
     put-places-requires
     enum-known-answer-2
     file-refused-line-requires
-    put-line-requires-2
+    put-line-unchecked-requires-2
     returns
     returns-2)

@@ -1,28 +1,29 @@
--- `programs::put_places` meets its contract. Each turn puts the line of a place before those still to be put. Assumes nothing.
-use mathlib.Core.Path.{_≡_, refl, _∙_}
-use Prim.Native.Nat.{_+_, _-_, _*_, _≤_, _<_}
+-- `programs::put_places` meets its contract. The loop's invariant: `PutSoFar`, with the places' lines. Assumes nothing.
+use mathlib.Core.List.{List}
+use mathlib.Core.Path.{_≡_, ap, _∙_}
+use Prim.Native.Nat.{ℕ, _-_, _<_}
+use native.Mathlib.Numerals.{add-one}
 use native.Mathlib.Omega.{arith}
 use borrow.Author.Needs.{needs}
 use denote.Ref.{now}
-use lib.ListN.{length, getD, drop, drop-of-length-le}
-use Rattle.little_endian.specs.Numbers.{put}
-use Rattle.little_endian.proofs.Puts.{put-none}
+use lib.ListN.{length, drop, drop-of-length-le}
+use lib.Seq.{drop-cons}
+use Rattle.place.specs.declared.Place.{Place}
+use Rattle.place.specs.Places.{blankPlace}
 use Rattle.atlas_file.specs.Steps.{mostPlaces}
 use Rattle.atlas_file.specs.Reading.{placesRead}
 use Rattle.atlas.proofs.FilePlaces.{accepted-count}
-use Rattle.place.specs.Places.{blankPlace}
-use Rattle.text.specs.Lines.{placeLine}
 use Rattle.text.proofs.Building.{held-text}
 use Rattle.programs.specs.Listing.{placeLines}
-use Rattle.programs.proofs.Listings.{length-turn, put-turn}
+use Rattle.programs.proofs.Listings.{PutSoFar, none-put, line-room, one-put, all-put}
 use Rattle.programs.proofs.put_places.Statement.{statement}
 use Rattle.programs.proofs.put_places.Tie as tie
 
+abbrev left : List Place → ℕ → List ℕ
+left ps k = placeLines (drop k ps)
+
 abbrev Inv-loop : tie.InvT-loop
-Inv-loop out₀ at file first count to₀ k₀ out to k =
-    let ps = placesRead file mostPlaces in
-    (k ≤ count) × (count ≡ length ps) × (length out ≡ length out₀) × (to + 64 * (count - k) ≤ length out₀)
-    × (to + length (placeLines (drop k ps)) ≡ at + length (placeLines ps)) × (put out to (placeLines (drop k ps)) ≡ put out₀ at (placeLines ps))
+Inv-loop out₀ at file first count to₀ k₀ out to k = let ps = placesRead file mostPlaces in (count ≡ length ps) × PutSoFar (left ps) count at out₀ out to k
 
 abbrev μ-loop : tie.MeasureT-loop
 μ-loop out₀ at file first count to₀ k₀ out to k = count - k
@@ -31,7 +32,7 @@ loop-holds : tie.Need-loop-holds Inv-loop μ-loop
 loop-holds c =
     let p = c .before .before .pre in
     let n = accepted-count (p .1) in
-    (omega arith, p .2 ∙ n .0, refl, omega (arith, p .0, n .1, p .2), refl, refl)
+    (p .2 ∙ n .0, none-put _ _ _ _ (omega (arith, p .0, n .1, p .2)))
 
 place-of-unchecked-requires : tie.Need-place-of-unchecked-requires Inv-loop μ-loop
 place-of-unchecked-requires c κs = let p = c .before .before .before .before .pre in (p .1, omega (arith, p .2))
@@ -39,8 +40,8 @@ place-of-unchecked-requires c κs = let p = c .before .before .before .before .p
 place-line-requires : tie.Need-place-line-requires Inv-loop μ-loop
 place-line-requires c κs = search needs
 
-put-line-requires : tie.Need-put-line-requires Inv-loop μ-loop
-put-line-requires c κs = let l = c .before .before .before .before .loop in omega (arith, l .inv)
+put-line-unchecked-requires : tie.Need-put-line-unchecked-requires Inv-loop μ-loop
+put-line-unchecked-requires c κs = line-room _ _ _ _ (c .before .before .before .before .loop .inv .1) (omega arith)
 
 add-k : tie.Need-add-k Inv-loop μ-loop
 add-k c = search needs
@@ -55,29 +56,22 @@ loop-again c =
     let place = line .before .before in
     let l = place .before .before .loop in
     let ps = placesRead (now (place .before .before .before .before .before .args .file)) mostPlaces in
-    let text = held-text _ _ (line .place-line .ensures) in
     let is = place .place-of-unchecked .ensures in
-    let fits = rw is at (line .place-line .ensures .0) in
-    let r = rw (text, is) at (put-line .put-line .ensures .0) in
-    let o = rw (text, is) at (put-line .put-line .ensures .1) in
-    let below : l .k < length ps = omega (arith, l .inv .1) in
-    let room : l .to + length (placeLine (getD ps (l .k) blankPlace)) ≤ length (l .out) = omega (arith, fits, l .inv .2, l .inv .3) in (
-      omega arith,
-      l .inv .1,
-      put-line .put-line .kept .0 ∙ l .inv .2,
-      omega (arith, r, fits, l .inv .3),
-      omega (arith, r, length-turn ps (l .k) below, l .inv .4),
-      rw (r, o) (put-turn ps (l .k) below (l .out) (l .to) room) ∙ l .inv .5,
+    let text = held-text _ _ (line .place-line .ensures) in
+    let below : l .k < length ps = omega (arith, l .inv .0) in
+    let turn = ap placeLines (drop-cons ps (l .k) blankPlace below) in (
+      l .inv .0,
+      one-put _ _ _ _ (l .inv .1) _ _ _ (omega arith) (rw (add-one, is) turn) (line .place-line .ensures .0) (put-line .put-line-unchecked .kept .0) (rw text at (put-line .put-line-unchecked .ensures)),
     )
 
 same-length : tie.Need-same-length Inv-loop μ-loop
-same-length c = c .before .loop .inv .2
+same-length c = c .before .loop .inv .1 .as-long
 
 returns : tie.Need-returns Inv-loop μ-loop
 returns c =
     let l = c .before .loop in
-    let none = drop-of-length-le (placesRead (now (c .before .before .before .before .args .file)) mostPlaces) {i = l .k} (omega (arith, l .inv .1)) in
-    (let e = rw none at (l .inv .4) in omega (arith, e), rw (none, put-none) at (l .inv .5))
+    let ps = placesRead (now (c .before .before .before .before .args .file)) mostPlaces in
+    all-put _ _ _ _ (l .inv .1) (ap placeLines (drop-of-length-le ps {i = l .k} (omega (arith, l .inv .0))))
 
 pub put-places-spec : {M : Type 1} → statement M
 put-places-spec =
@@ -88,7 +82,7 @@ put-places-spec =
     loop-holds
     place-of-unchecked-requires
     place-line-requires
-    put-line-requires
+    put-line-unchecked-requires
     add-k
     loop-less
     loop-again

@@ -4,9 +4,9 @@ use Rattle.nearest.proofs.best_of.Key
 use Rattle.nearest.proofs.best_of.Proof.Lts
 use Rattle.nearest.proofs.Derived.BestOfReads as Reads
 use Rattle.nearest.proofs.best_of.Statement
-use Rattle.nearest.proofs.candidate_at.Met
-use Rattle.nearest.proofs.candidate_at.Reads as Reads'
-use Rattle.nearest.proofs.candidate_at.Symbol
+use Rattle.nearest.proofs.candidate_at_unchecked.Met
+use Rattle.nearest.proofs.candidate_at_unchecked.Reads as Reads'
+use Rattle.nearest.proofs.candidate_at_unchecked.Symbol
 use Rattle.nearest.proofs.is_better.Met as Met'
 use Rattle.nearest.proofs.is_better.Reads as Reads''
 use Rattle.nearest.proofs.is_better.Symbol as Symbol'
@@ -38,8 +38,8 @@ After-loop = λ Inv μ. Lts.After-loop (Reads'3.Asked, Reads'3.Learnt, Reads'.As
 abbrev pub After-place-at-unchecked : (Inv : InvT-loop) → (μ : MeasureT-loop) → Type 0
 After-place-at-unchecked = λ Inv μ. Lts.After-place-at-unchecked (Reads'3.Asked, Reads'3.Learnt, Reads'.Asked, Reads'.Learnt, Reads''.Asked, Reads''.Learnt) Reads.Pre Reads.Post Inv μ
 
-abbrev pub After-candidate-at : (Inv : InvT-loop) → (μ : MeasureT-loop) → Type 0
-After-candidate-at = λ Inv μ. Lts.After-candidate-at (Reads'3.Asked, Reads'3.Learnt, Reads'.Asked, Reads'.Learnt, Reads''.Asked, Reads''.Learnt) Reads.Pre Reads.Post Inv μ
+abbrev pub After-candidate-at-unchecked : (Inv : InvT-loop) → (μ : MeasureT-loop) → Type 0
+After-candidate-at-unchecked = λ Inv μ. Lts.After-candidate-at-unchecked (Reads'3.Asked, Reads'3.Learnt, Reads'.Asked, Reads'.Learnt, Reads''.Asked, Reads''.Learnt) Reads.Pre Reads.Post Inv μ
 
 abbrev pub After-is-better : (Inv : InvT-loop) → (μ : MeasureT-loop) → Type 0
 After-is-better = λ Inv μ. Lts.After-is-better (Reads'3.Asked, Reads'3.Learnt, Reads'.Asked, Reads'.Learnt, Reads''.Asked, Reads''.Learnt) Reads.Pre Reads.Post Inv μ
@@ -59,8 +59,8 @@ Need-loop-holds = λ Inv μ. Lts.Need-loop-holds (Reads'3.Asked, Reads'3.Learnt,
 abbrev pub Need-place-at-unchecked-requires : (Inv : InvT-loop) → (μ : MeasureT-loop) → Type 0
 Need-place-at-unchecked-requires = λ Inv μ. Lts.Need-place-at-unchecked-requires (Reads'3.Asked, Reads'3.Learnt, Reads'.Asked, Reads'.Learnt, Reads''.Asked, Reads''.Learnt) Reads.Pre Reads.Post Inv μ
 
-abbrev pub Need-candidate-at-requires : (Inv : InvT-loop) → (μ : MeasureT-loop) → Type 0
-Need-candidate-at-requires = λ Inv μ. Lts.Need-candidate-at-requires (Reads'3.Asked, Reads'3.Learnt, Reads'.Asked, Reads'.Learnt, Reads''.Asked, Reads''.Learnt) Reads.Pre Reads.Post Inv μ
+abbrev pub Need-candidate-at-unchecked-requires : (Inv : InvT-loop) → (μ : MeasureT-loop) → Type 0
+Need-candidate-at-unchecked-requires = λ Inv μ. Lts.Need-candidate-at-unchecked-requires (Reads'3.Asked, Reads'3.Learnt, Reads'.Asked, Reads'.Learnt, Reads''.Asked, Reads''.Learnt) Reads.Pre Reads.Post Inv μ
 
 abbrev pub Need-is-better-requires : (Inv : InvT-loop) → (μ : MeasureT-loop) → Type 0
 Need-is-better-requires = λ Inv μ. Lts.Need-is-better-requires (Reads'3.Asked, Reads'3.Learnt, Reads'.Asked, Reads'.Learnt, Reads''.Asked, Reads''.Learnt) Reads.Pre Reads.Post Inv μ
@@ -78,9 +78,9 @@ abbrev pub Need-returns : (Inv : InvT-loop) → (μ : MeasureT-loop) → Type 0
 Need-returns = λ Inv μ. Lts.Need-returns (Reads'3.Asked, Reads'3.Learnt, Reads'.Asked, Reads'.Learnt, Reads''.Asked, Reads''.Learnt) Reads.Pre Reads.Post Inv μ
 
 module _ {M : Type 1} where
-  pub spec : (Inv : InvT-loop) → (μ : MeasureT-loop) → (answer : Need-loop-holds Inv μ) → (answer : Need-place-at-unchecked-requires Inv μ) → (answer : Need-candidate-at-requires Inv μ) → (answer : Need-is-better-requires Inv μ) → (answer : Need-add-k Inv μ) → (answer : Need-loop-less Inv μ) → (answer : Need-loop-again Inv μ) → (answer : Need-returns Inv μ) → Lts.Closed (Reads'3.Asked, Reads'3.Learnt, Reads'.Asked, Reads'.Learnt, Reads''.Asked, Reads''.Learnt) Reads.Pre Reads.Post M
+  pub spec : (Inv : InvT-loop) → (μ : MeasureT-loop) → (answer : Need-loop-holds Inv μ) → (answer : Need-place-at-unchecked-requires Inv μ) → (answer : Need-candidate-at-unchecked-requires Inv μ) → (answer : Need-is-better-requires Inv μ) → (answer : Need-add-k Inv μ) → (answer : Need-loop-less Inv μ) → (answer : Need-loop-again Inv μ) → (answer : Need-returns Inv μ) → Lts.Closed (Reads'3.Asked, Reads'3.Learnt, Reads'.Asked, Reads'.Learnt, Reads''.Asked, Reads''.Learnt) Reads.Pre Reads.Post M
   spec = λ Inv μ answer answer' answer'' answer'3 answer'4 answer'5 answer'6 answer'7. Lts.spec (Reads'3.Asked, Reads'3.Learnt, Reads'.Asked, Reads'.Learnt, Reads''.Asked, Reads''.Learnt) Reads.Pre Reads.Post Inv μ answer answer' answer'' answer'3 answer'4 answer'5 answer'6 answer'7
 
   pub close : Lts.Closed (Reads'3.Asked, Reads'3.Learnt, Reads'.Asked, Reads'.Learnt, Reads''.Asked, Reads''.Learnt) Reads.Pre Reads.Post M → Statement.statement M
   unfolding Code.routine Running.tablesOf
-  close = λ closed 𝓤 H 𝓜 𝓖 𝓡. Written.close 1 Reads.ps Reads.r Reads.Ghost Reads.requires Reads.ensures Reads.pre-read Reads.Pinned Reads.Owned Reads.post-read record { M = M; 𝓤 = 𝓤; H = H; 𝓜 = 𝓜; 𝓖 = 𝓖; 𝓡 = 𝓡 } Code.env Key.name Code.function (Code.unfolded 𝓤 H 𝓜 𝓡) (λ κs a g. tt) (λ κs. Reads.owns κs record { M = M; 𝓤 = 𝓤; H = H; 𝓜 = 𝓜; 𝓖 = 𝓖; 𝓡 = 𝓡 }) (Reads.passes record { M = M; 𝓤 = 𝓤; H = H; 𝓜 = 𝓜; 𝓖 = 𝓖; 𝓡 = 𝓡 }) λ g. closed 𝓤 H (𝓖 .A) (Running.givenOf 𝓤 H 𝓜 𝓖) (Run.Over 𝓤 H 𝓜 𝓖 𝓡 Code.env) (Reads'3.known record { M = M; 𝓤 = 𝓤; H = H; 𝓜 = 𝓜; 𝓖 = 𝓖; 𝓡 = 𝓡 } Code.env Symbol''.name Symbol''.routine Code.calls-table·place-at-unchecked (Met''.met 𝓤 H 𝓜 𝓖 𝓡)) (Reads'.known record { M = M; 𝓤 = 𝓤; H = H; 𝓜 = 𝓜; 𝓖 = 𝓖; 𝓡 = 𝓡 } Code.env Symbol.name Symbol.routine Code.calls-nearest·candidate-at (Met.met 𝓤 H 𝓜 𝓖 𝓡)) (Reads''.known record { M = M; 𝓤 = 𝓤; H = H; 𝓜 = 𝓜; 𝓖 = 𝓖; 𝓡 = 𝓡 } Code.env Symbol'.name Symbol'.routine Code.calls-nearest·is-better (Met'.met 𝓤 H 𝓜 𝓖 𝓡))
+  close = λ closed 𝓤 H 𝓜 𝓖 𝓡. Written.close 1 Reads.ps Reads.r Reads.Ghost Reads.requires Reads.ensures Reads.pre-read Reads.Pinned Reads.Owned Reads.post-read record { M = M; 𝓤 = 𝓤; H = H; 𝓜 = 𝓜; 𝓖 = 𝓖; 𝓡 = 𝓡 } Code.env Key.name Code.function (Code.unfolded 𝓤 H 𝓜 𝓡) (λ κs a g. tt) (λ κs. Reads.owns κs record { M = M; 𝓤 = 𝓤; H = H; 𝓜 = 𝓜; 𝓖 = 𝓖; 𝓡 = 𝓡 }) (Reads.passes record { M = M; 𝓤 = 𝓤; H = H; 𝓜 = 𝓜; 𝓖 = 𝓖; 𝓡 = 𝓡 }) λ g. closed 𝓤 H (𝓖 .A) (Running.givenOf 𝓤 H 𝓜 𝓖) (Run.Over 𝓤 H 𝓜 𝓖 𝓡 Code.env) (Reads'3.known record { M = M; 𝓤 = 𝓤; H = H; 𝓜 = 𝓜; 𝓖 = 𝓖; 𝓡 = 𝓡 } Code.env Symbol''.name Symbol''.routine Code.calls-table·place-at-unchecked (Met''.met 𝓤 H 𝓜 𝓖 𝓡)) (Reads'.known record { M = M; 𝓤 = 𝓤; H = H; 𝓜 = 𝓜; 𝓖 = 𝓖; 𝓡 = 𝓡 } Code.env Symbol.name Symbol.routine Code.calls-nearest·candidate-at-unchecked (Met.met 𝓤 H 𝓜 𝓖 𝓡)) (Reads''.known record { M = M; 𝓤 = 𝓤; H = H; 𝓜 = 𝓜; 𝓖 = 𝓖; 𝓡 = 𝓡 } Code.env Symbol'.name Symbol'.routine Code.calls-nearest·is-better (Met'.met 𝓤 H 𝓜 𝓖 𝓡))

@@ -10,9 +10,9 @@ use Rattle.nearest.proofs.nearest.Key
 use Rattle.nearest.proofs.nearest.Proof.Lts
 use Rattle.nearest.proofs.Derived.NearestReads as Reads''
 use Rattle.nearest.proofs.nearest.Statement
-use Rattle.nearest.proofs.square.Met as Met''
-use Rattle.nearest.proofs.square.Reads as Reads'3
-use Rattle.nearest.proofs.square.Symbol as Symbol''
+use Rattle.nearest.proofs.square_unchecked.Met as Met''
+use Rattle.nearest.proofs.square_unchecked.Reads as Reads'3
+use Rattle.nearest.proofs.square_unchecked.Symbol as Symbol''
 use Rattle.nearest.proofs.tap_in_range.Met as Met'3
 use Rattle.nearest.proofs.tap_in_range.Reads as Reads'4
 use Rattle.nearest.proofs.tap_in_range.Symbol as Symbol'3
@@ -29,8 +29,8 @@ After-tap-in-range = Lts.After-tap-in-range (Reads'4.Asked, Reads'4.Learnt, Read
 abbrev pub Then1 : Type 0
 Then1 = Lts.Then1 (Reads'4.Asked, Reads'4.Learnt, Reads'3.Asked, Reads'3.Learnt, Reads'.Asked, Reads'.Learnt, Reads.Asked, Reads.Learnt) Reads''.Pre Reads''.Post
 
-abbrev pub After-square : Type 0
-After-square = Lts.After-square (Reads'4.Asked, Reads'4.Learnt, Reads'3.Asked, Reads'3.Learnt, Reads'.Asked, Reads'.Learnt, Reads.Asked, Reads.Learnt) Reads''.Pre Reads''.Post
+abbrev pub After-square-unchecked : Type 0
+After-square-unchecked = Lts.After-square-unchecked (Reads'4.Asked, Reads'4.Learnt, Reads'3.Asked, Reads'3.Learnt, Reads'.Asked, Reads'.Learnt, Reads.Asked, Reads.Learnt) Reads''.Pre Reads''.Post
 
 abbrev pub After-best-of : Type 0
 After-best-of = Lts.After-best-of (Reads'4.Asked, Reads'4.Learnt, Reads'3.Asked, Reads'3.Learnt, Reads'.Asked, Reads'.Learnt, Reads.Asked, Reads.Learnt) Reads''.Pre Reads''.Post
@@ -44,8 +44,8 @@ Else1 = Lts.Else1 (Reads'4.Asked, Reads'4.Learnt, Reads'3.Asked, Reads'3.Learnt,
 abbrev pub Need-tap-in-range-requires : Type 0
 Need-tap-in-range-requires = Lts.Need-tap-in-range-requires (Reads'4.Asked, Reads'4.Learnt, Reads'3.Asked, Reads'3.Learnt, Reads'.Asked, Reads'.Learnt, Reads.Asked, Reads.Learnt) Reads''.Pre Reads''.Post
 
-abbrev pub Need-square-requires : Type 0
-Need-square-requires = Lts.Need-square-requires (Reads'4.Asked, Reads'4.Learnt, Reads'3.Asked, Reads'3.Learnt, Reads'.Asked, Reads'.Learnt, Reads.Asked, Reads.Learnt) Reads''.Pre Reads''.Post
+abbrev pub Need-square-unchecked-requires : Type 0
+Need-square-unchecked-requires = Lts.Need-square-unchecked-requires (Reads'4.Asked, Reads'4.Learnt, Reads'3.Asked, Reads'3.Learnt, Reads'.Asked, Reads'.Learnt, Reads.Asked, Reads.Learnt) Reads''.Pre Reads''.Post
 
 abbrev pub Need-best-of-requires : Type 0
 Need-best-of-requires = Lts.Need-best-of-requires (Reads'4.Asked, Reads'4.Learnt, Reads'3.Asked, Reads'3.Learnt, Reads'.Asked, Reads'.Learnt, Reads.Asked, Reads.Learnt) Reads''.Pre Reads''.Post
@@ -60,10 +60,10 @@ abbrev pub Need-returns-2 : Type 0
 Need-returns-2 = Lts.Need-returns-2 (Reads'4.Asked, Reads'4.Learnt, Reads'3.Asked, Reads'3.Learnt, Reads'.Asked, Reads'.Learnt, Reads.Asked, Reads.Learnt) Reads''.Pre Reads''.Post
 
 module _ {M : Type 1} where
-  pub spec : (answer : Need-tap-in-range-requires) → (answer : Need-square-requires) → (answer : Need-best-of-requires) → (answer : Need-answer-of-requires) → (answer : Need-returns) → (answer : Need-returns-2) → Lts.Closed (Reads'4.Asked, Reads'4.Learnt, Reads'3.Asked, Reads'3.Learnt, Reads'.Asked, Reads'.Learnt, Reads.Asked, Reads.Learnt) Reads''.Pre Reads''.Post M
+  pub spec : (answer : Need-tap-in-range-requires) → (answer : Need-square-unchecked-requires) → (answer : Need-best-of-requires) → (answer : Need-answer-of-requires) → (answer : Need-returns) → (answer : Need-returns-2) → Lts.Closed (Reads'4.Asked, Reads'4.Learnt, Reads'3.Asked, Reads'3.Learnt, Reads'.Asked, Reads'.Learnt, Reads.Asked, Reads.Learnt) Reads''.Pre Reads''.Post M
   spec = λ answer answer' answer'' answer'3 answer'4 answer'5. Lts.spec (Reads'4.Asked, Reads'4.Learnt, Reads'3.Asked, Reads'3.Learnt, Reads'.Asked, Reads'.Learnt, Reads.Asked, Reads.Learnt) Reads''.Pre Reads''.Post answer answer' answer'' answer'3 answer'4 answer'5
 
   pub close : Lts.Closed (Reads'4.Asked, Reads'4.Learnt, Reads'3.Asked, Reads'3.Learnt, Reads'.Asked, Reads'.Learnt, Reads.Asked, Reads.Learnt) Reads''.Pre Reads''.Post M → Statement.statement M
   unfolding Code.routine Running.tablesOf
-  close = λ closed 𝓤 H 𝓜 𝓖 𝓡. Written.close 1 Reads''.ps Reads''.r Reads''.Ghost Reads''.requires Reads''.ensures Reads''.pre-read Reads''.Pinned Reads''.Owned Reads''.post-read record { M = M; 𝓤 = 𝓤; H = H; 𝓜 = 𝓜; 𝓖 = 𝓖; 𝓡 = 𝓡 } Code.env Key.name Code.function (Code.unfolded 𝓤 H 𝓜 𝓡) (λ κs a g. tt) (λ κs. Reads''.owns κs record { M = M; 𝓤 = 𝓤; H = H; 𝓜 = 𝓜; 𝓖 = 𝓖; 𝓡 = 𝓡 }) (Reads''.passes record { M = M; 𝓤 = 𝓤; H = H; 𝓜 = 𝓜; 𝓖 = 𝓖; 𝓡 = 𝓡 }) λ g. closed 𝓤 H (𝓖 .A) (Running.givenOf 𝓤 H 𝓜 𝓖) (Run.Over 𝓤 H 𝓜 𝓖 𝓡 Code.env) (Reads'4.known record { M = M; 𝓤 = 𝓤; H = H; 𝓜 = 𝓜; 𝓖 = 𝓖; 𝓡 = 𝓡 } Code.env Symbol'3.name Symbol'3.routine Code.calls-nearest·tap-in-range (Met'3.met 𝓤 H 𝓜 𝓖 𝓡)) (Reads'3.known record { M = M; 𝓤 = 𝓤; H = H; 𝓜 = 𝓜; 𝓖 = 𝓖; 𝓡 = 𝓡 } Code.env Symbol''.name Symbol''.routine Code.calls-nearest·square (Met''.met 𝓤 H 𝓜 𝓖 𝓡)) (Reads'.known record { M = M; 𝓤 = 𝓤; H = H; 𝓜 = 𝓜; 𝓖 = 𝓖; 𝓡 = 𝓡 } Code.env Symbol'.name Symbol'.routine Code.calls-nearest·best-of (Met'.met 𝓤 H 𝓜 𝓖 𝓡))
-      (Reads.known record { M = M; 𝓤 = 𝓤; H = H; 𝓜 = 𝓜; 𝓖 = 𝓖; 𝓡 = 𝓡 } Code.env Symbol.name Symbol.routine Code.calls-nearest·answer-of (Met.met 𝓤 H 𝓜 𝓖 𝓡))
+  close = λ closed 𝓤 H 𝓜 𝓖 𝓡. Written.close 1 Reads''.ps Reads''.r Reads''.Ghost Reads''.requires Reads''.ensures Reads''.pre-read Reads''.Pinned Reads''.Owned Reads''.post-read record { M = M; 𝓤 = 𝓤; H = H; 𝓜 = 𝓜; 𝓖 = 𝓖; 𝓡 = 𝓡 } Code.env Key.name Code.function (Code.unfolded 𝓤 H 𝓜 𝓡) (λ κs a g. tt) (λ κs. Reads''.owns κs record { M = M; 𝓤 = 𝓤; H = H; 𝓜 = 𝓜; 𝓖 = 𝓖; 𝓡 = 𝓡 }) (Reads''.passes record { M = M; 𝓤 = 𝓤; H = H; 𝓜 = 𝓜; 𝓖 = 𝓖; 𝓡 = 𝓡 }) λ g. closed 𝓤 H (𝓖 .A) (Running.givenOf 𝓤 H 𝓜 𝓖) (Run.Over 𝓤 H 𝓜 𝓖 𝓡 Code.env) (Reads'4.known record { M = M; 𝓤 = 𝓤; H = H; 𝓜 = 𝓜; 𝓖 = 𝓖; 𝓡 = 𝓡 } Code.env Symbol'3.name Symbol'3.routine Code.calls-nearest·tap-in-range (Met'3.met 𝓤 H 𝓜 𝓖 𝓡)) (Reads'3.known record { M = M; 𝓤 = 𝓤; H = H; 𝓜 = 𝓜; 𝓖 = 𝓖; 𝓡 = 𝓡 } Code.env Symbol''.name Symbol''.routine Code.calls-nearest·square-unchecked (Met''.met 𝓤 H 𝓜 𝓖 𝓡)) (Reads'.known record { M = M; 𝓤 = 𝓤; H = H; 𝓜 = 𝓜; 𝓖 = 𝓖; 𝓡 = 𝓡 } Code.env Symbol'.name Symbol'.routine Code.calls-nearest·best-of (Met'.met 𝓤 H 𝓜
+      𝓖 𝓡)) (Reads.known record { M = M; 𝓤 = 𝓤; H = H; 𝓜 = 𝓜; 𝓖 = 𝓖; 𝓡 = 𝓡 } Code.env Symbol.name Symbol.routine Code.calls-nearest·answer-of (Met.met 𝓤 H 𝓜 𝓖 𝓡))

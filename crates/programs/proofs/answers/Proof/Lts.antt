@@ -178,7 +178,7 @@ abbrev b14 : S.Body
 b14 = S.assign (S.place 16 []) (S.aggregate (S.copy (S.place 15 []) ∷ S.intBig S.w64 65536 ∷ []))
 
 abbrev b15 : S.Body
-b15 = S.call "programs::put_line" (S.copy (S.place 16 []) ∷ S.copy (S.place 8 []) ∷ S.copy (S.place 10 (S.field 1 ∷ [])) ∷ []) (S.place 8 [])
+b15 = S.call "programs::put_line_unchecked" (S.copy (S.place 16 []) ∷ S.copy (S.place 8 []) ∷ S.copy (S.place 10 (S.field 1 ∷ [])) ∷ []) (S.place 8 [])
 
 abbrev b16 : S.Body
 b16 = S.assign (S.place 9 []) (S.op2 (S.add S.unsigned) (S.copy (S.place 9 [])) (S.int S.w64 1))
@@ -571,7 +571,7 @@ module _ (claims· : Claims) where
   module _ (Pre· : (κs : Lifetimes.Lfts 3) → Kinds.Dens κs ps → Type 0) (Post· : (κs : Lifetimes.Lfts 3) → (a : Kinds.Dens κs ps) → Kinds.Plain 3 ps r κs) where
     module _ (M : Type 1) where
       abbrev pub Closed : Type 2
-      Closed = (𝓤 : URA.URA M) (H : Wp.Heap 𝓤) (A : Atoms.Atoms 𝓤) (W : Kit.Given 𝓤 H A) (𝓣 : Wp.Tables 𝓤 H) (known0 : Plain.Known 𝓤 H A W 𝓣 0 ps·0 r·0 (claims· .0) (claims· .1) "programs::least") (known1 : Plain.Known 𝓤 H A W 𝓣 1 ps·1 r·1 (claims· .2) (claims· .3) "programs::feed") (known2 : Plain.Known 𝓤 H A W 𝓣 1 ps·2 r·2 (claims· .4) (claims· .5) "programs::put_line") → Statement.Triple 𝓤 (Wp.WpFn 𝓤 H (𝓣 .C) (𝓣 .Λ) (Function.fnOf 3 ps r xs m hs body)) (Function.plainOf 𝓤 H A 3 ps r Pre· Post·)
+      Closed = (𝓤 : URA.URA M) (H : Wp.Heap 𝓤) (A : Atoms.Atoms 𝓤) (W : Kit.Given 𝓤 H A) (𝓣 : Wp.Tables 𝓤 H) (known0 : Plain.Known 𝓤 H A W 𝓣 0 ps·0 r·0 (claims· .0) (claims· .1) "programs::least") (known1 : Plain.Known 𝓤 H A W 𝓣 1 ps·1 r·1 (claims· .2) (claims· .3) "programs::feed") (known2 : Plain.Known 𝓤 H A W 𝓣 1 ps·2 r·2 (claims· .4) (claims· .5) "programs::put_line_unchecked") → Statement.Triple 𝓤 (Wp.WpFn 𝓤 H (𝓣 .C) (𝓣 .Λ) (Function.fnOf 3 ps r xs m hs body)) (Function.plainOf 𝓤 H A 3 ps r Pre· Post·)
 
     module _ (Inv·0 : InvT-loop) (μ·0 : MeasureT-loop) where
       abbrev at0 : (bs : List Nat.ℕ) → Typed.TF T13 O4
@@ -708,7 +708,7 @@ module _ (claims· : Claims) where
 
       module _ {M : Type 1} (𝓤 : URA.URA M) (H : Wp.Heap 𝓤) (A : Atoms.Atoms 𝓤) (W : Kit.Given 𝓤 H A) (𝓣 : Wp.Tables 𝓤 H) where
         abbrev Knowns : Type 1
-        Knowns = Plain.Known 𝓤 H A W 𝓣 0 ps·0 r·0 (claims· .0) (claims· .1) "programs::least" × Plain.Known 𝓤 H A W 𝓣 1 ps·1 r·1 (claims· .2) (claims· .3) "programs::feed" × Plain.Known 𝓤 H A W 𝓣 1 ps·2 r·2 (claims· .4) (claims· .5) "programs::put_line"
+        Knowns = Plain.Known 𝓤 H A W 𝓣 0 ps·0 r·0 (claims· .0) (claims· .1) "programs::least" × Plain.Known 𝓤 H A W 𝓣 1 ps·1 r·1 (claims· .2) (claims· .3) "programs::feed" × Plain.Known 𝓤 H A W 𝓣 1 ps·2 r·2 (claims· .4) (claims· .5) "programs::put_line_unchecked"
 
       module _ (κs : Lifetimes.Lfts 3) (qs : Lifetimes.Shares 3) where
         abbrev g20 : List Row.Entry
@@ -895,7 +895,7 @@ module _ (claims· : Claims) where
           d10 = Typed.g-pre 𝓤 H A W 𝓣 E _ _ _ _ _ _ (Scalar.g-room 𝓤 H A W E G27 10 Laws''.mir (Local.room-whole 𝓤 H A W (Declared.row Turn.the-type) Laws''.mir Path'.refl)) d9
 
           d11 : Typed.Typed 𝓤 H A 𝓣 E G26 b17 Δ3 (at11 bs)
-          d11 = Typed.s-seq 𝓤 H A W 𝓣 E _ _ _ _ _ _ _ (Plain.t-call-plain 𝓤 H A W 𝓣 1 ps·2 r·2 (claims· .4) (claims· .5) "programs::put_line" (known .2) E (λ pos β. β) G26 (record { pos = 16; ty = S.tyRef S.erased S.mut (S.tyInt S.w8); ref = λ x. x }, (Num.vAt 8 λ x. x, (record { pos = 10; st = S.field 1 ∷ []; d = 40; at = λ x. Turn.struct .as-values x .1 .0 }, tt))) 8 (3 ∷ []) (Call.sub-id 𝓤 H A W (G26 .slots)) (
+          d11 = Typed.s-seq 𝓤 H A W 𝓣 E _ _ _ _ _ _ _ (Plain.t-call-plain 𝓤 H A W 𝓣 1 ps·2 r·2 (claims· .4) (claims· .5) "programs::put_line_unchecked" (known .2) E (λ pos β. β) G26 (record { pos = 16; ty = S.tyRef S.erased S.mut (S.tyInt S.w8); ref = λ x. x }, (Num.vAt 8 λ x. x, (record { pos = 10; st = S.field 1 ∷ []; d = 40; at = λ x. Turn.struct .as-values x .1 .0 }, tt))) 8 (3 ∷ []) (Call.sub-id 𝓤 H A W (G26 .slots)) (
             Reads'.as-is 𝓤 H A (Mut.mslice (Referent.rtF (Referent.fInt S.w8)) (S.tyRef S.erased S.mut (S.tyInt S.w8)) 3),
             Mut.reads-mslice 𝓤 H A W (Referent.rtF (Referent.fInt S.w8)) (S.tyRef S.erased S.mut (S.tyInt S.w8)) 3,
             Path'.refl,
@@ -903,8 +903,8 @@ module _ (claims· : Claims) where
               (Scalar.reads-sc 𝓤 H A W (Row.sInt S.w64), Path'.refl),
               (
                 (
-                  Yields'.yields-acc 𝓤 H A W (Rows.whole (Declared.row Turn.the-type)) (Declared.row Line.the-type) 40 (λ x. Turn.struct .as-values x .1 .0) Path'.refl (Copies.cStruct Line.the-type Laws'4.the-laws
-                      Laws'4.the-copy .copy 𝓤 H A W) (Yields'.acc-record 𝓤 H A W (Rows.whole (Declared.row Turn.the-type)) Line.the-type 40 (λ x. Turn.struct .as-values x .1 .0) (Yields'.acc-part 𝓤 H A W (Rows.whole (Declared.row Turn.the-type)) (Declared.row Turn.the-type) (Struct.Struct (Declared.shape Line.the-type)) 0 40 (λ x. x) (λ y. Line.the-type .to (Turn.struct .as-values y .1 .0)) (Yields'.acc-whole 𝓤 H A W (Declared.row Turn.the-type)) λ y a. Behind.look-at 𝓤 H A W TreeShare.fullShare Turn.the-type Laws''.the-laws 1 40 Path'.refl Path'.refl a y (Turn.struct .as-values y) Path'.refl)),
+                  Yields'.yields-acc 𝓤 H A W (Rows.whole (Declared.row Turn.the-type)) (Declared.row Line.the-type) 40 (λ x. Turn.struct .as-values x .1 .0) Path'.refl (Copies.cStruct Line.the-type
+                      Laws'4.the-laws Laws'4.the-copy .copy 𝓤 H A W) (Yields'.acc-record 𝓤 H A W (Rows.whole (Declared.row Turn.the-type)) Line.the-type 40 (λ x. Turn.struct .as-values x .1 .0) (Yields'.acc-part 𝓤 H A W (Rows.whole (Declared.row Turn.the-type)) (Declared.row Turn.the-type) (Struct.Struct (Declared.shape Line.the-type)) 0 40 (λ x. x) (λ y. Line.the-type .to (Turn.struct .as-values y .1 .0)) (Yields'.acc-whole 𝓤 H A W (Declared.row Turn.the-type)) λ y a. Behind.look-at 𝓤 H A W TreeShare.fullShare Turn.the-type Laws''.the-laws 1 40 Path'.refl Path'.refl a y (Turn.struct .as-values y) Path'.refl)),
                   Path'.refl,
                 ),
                 tt,
@@ -1226,51 +1226,51 @@ module _ (claims· : Claims) where
       m23 = λ before given. s22 (before .before .before .before .before .before .before .before .blocks) .next (m22 before given)
 
       module _ (before· : After-begun) where
-        pub record After-put-line-arg·own : Type 0 where
+        pub record After-put-line-unchecked-arg·own : Type 0 where
           pub given : s21 (before· .before .before .before .before .before .before .before .blocks) .gives (m21 (before· .before) (before· .begun .given))
 
-      pub record After-put-line-arg : Type 0 where
+      pub record After-put-line-unchecked-arg : Type 0 where
         pub before : After-begun
-        pub put-line-arg : After-put-line-arg·own before
+        pub put-line-unchecked-arg : After-put-line-unchecked-arg·own before
 
-      abbrev pub Need-put-line-requires : Type 0
-      Need-put-line-requires = (c : After-put-line-arg) → s23 (c .before .before .before .before .before .before .before .before .blocks) .asks (m23 (c .before) (c .put-line-arg .given))
+      abbrev pub Need-put-line-unchecked-requires : Type 0
+      Need-put-line-unchecked-requires = (c : After-put-line-unchecked-arg) → s23 (c .before .before .before .before .before .before .before .before .blocks) .asks (m23 (c .before) (c .put-line-unchecked-arg .given))
 
-      abbrev pub m24 : (before : After-put-line-arg) → (given : s23 (before .before .before .before .before .before .before .before .before .blocks) .gives (m23 (before .before) (before .put-line-arg .given))) → Typed.Mo T27
-      m24 = λ before given. s23 (before .before .before .before .before .before .before .before .before .blocks) .next (m23 (before .before) (before .put-line-arg .given)) given
+      abbrev pub m24 : (before : After-put-line-unchecked-arg) → (given : s23 (before .before .before .before .before .before .before .before .before .blocks) .gives (m23 (before .before) (before .put-line-unchecked-arg .given))) → Typed.Mo T27
+      m24 = λ before given. s23 (before .before .before .before .before .before .before .before .before .blocks) .next (m23 (before .before) (before .put-line-unchecked-arg .given)) given
 
-      module _ (before· : After-put-line-arg) where
-        abbrev pub After-put-line·own : Type 0
-        After-put-line·own = Called.Called ps·2 r·2 (claims· .5) T26 (record { pos = 16; ty = S.tyRef S.erased S.mut (S.tyInt S.w8); ref = λ x. x }, (Num.vAt 8 λ x. x, (record { pos = 10; st = S.field 1 ∷ []; d = 40; at = λ x. Turn.struct .as-values x .1 .0 }, tt))) (m23 (before· .before) (before· .put-line-arg .given))
+      module _ (before· : After-put-line-unchecked-arg) where
+        abbrev pub After-put-line-unchecked·own : Type 0
+        After-put-line-unchecked·own = Called.Called ps·2 r·2 (claims· .5) T26 (record { pos = 16; ty = S.tyRef S.erased S.mut (S.tyInt S.w8); ref = λ x. x }, (Num.vAt 8 λ x. x, (record { pos = 10; st = S.field 1 ∷ []; d = 40; at = λ x. Turn.struct .as-values x .1 .0 }, tt))) (m23 (before· .before) (before· .put-line-unchecked-arg .given))
 
-      pub record After-put-line : Type 0 where
-        pub before : After-put-line-arg
-        pub put-line : After-put-line·own before
+      pub record After-put-line-unchecked : Type 0 where
+        pub before : After-put-line-unchecked-arg
+        pub put-line-unchecked : After-put-line-unchecked·own before
 
-      abbrev pub After-put-line·gave : (c : After-put-line) → s23 (c .before .before .before .before .before .before .before .before .before .blocks) .gives (m23 (c .before .before) (c .before .put-line-arg .given))
-      After-put-line·gave = λ c. Called.given ps·2 r·2 (claims· .5) T26 (record { pos = 16; ty = S.tyRef S.erased S.mut (S.tyInt S.w8); ref = λ x. x }, (Num.vAt 8 λ x. x, (record { pos = 10; st = S.field 1 ∷ []; d = 40; at = λ x. Turn.struct .as-values x .1 .0 }, tt))) (m23 (c .before .before) (c .before .put-line-arg .given)) (c .put-line)
+      abbrev pub After-put-line-unchecked·gave : (c : After-put-line-unchecked) → s23 (c .before .before .before .before .before .before .before .before .before .blocks) .gives (m23 (c .before .before) (c .before .put-line-unchecked-arg .given))
+      After-put-line-unchecked·gave = λ c. Called.given ps·2 r·2 (claims· .5) T26 (record { pos = 16; ty = S.tyRef S.erased S.mut (S.tyInt S.w8); ref = λ x. x }, (Num.vAt 8 λ x. x, (record { pos = 10; st = S.field 1 ∷ []; d = 40; at = λ x. Turn.struct .as-values x .1 .0 }, tt))) (m23 (c .before .before) (c .before .put-line-unchecked-arg .given)) (c .put-line-unchecked)
 
-      abbrev pub m25 : (before : After-put-line-arg) → (given : s23 (before .before .before .before .before .before .before .before .before .blocks) .gives (m23 (before .before) (before .put-line-arg .given))) → Typed.Mo T28
+      abbrev pub m25 : (before : After-put-line-unchecked-arg) → (given : s23 (before .before .before .before .before .before .before .before .before .blocks) .gives (m23 (before .before) (before .put-line-unchecked-arg .given))) → Typed.Mo T28
       m25 = λ before given. s24 (before .before .before .before .before .before .before .before .before .blocks) (m24 before given)
 
-      abbrev pub m26 : (before : After-put-line-arg) → (given : s23 (before .before .before .before .before .before .before .before .before .blocks) .gives (m23 (before .before) (before .put-line-arg .given))) → Typed.Mo T30
+      abbrev pub m26 : (before : After-put-line-unchecked-arg) → (given : s23 (before .before .before .before .before .before .before .before .before .blocks) .gives (m23 (before .before) (before .put-line-unchecked-arg .given))) → Typed.Mo T30
       m26 = λ before given. s26 (before .before .before .before .before .before .before .before .before .blocks) .next (m25 before given)
 
       abbrev pub Need-add-k : Type 0
-      Need-add-k = (c : After-put-line) → s28 (c .before .before .before .before .before .before .before .before .before .blocks) .asks (m26 (c .before) (After-put-line·gave c))
+      Need-add-k = (c : After-put-line-unchecked) → s28 (c .before .before .before .before .before .before .before .before .before .blocks) .asks (m26 (c .before) (After-put-line-unchecked·gave c))
 
-      abbrev pub m27 : (before : After-put-line-arg) → (given : s23 (before .before .before .before .before .before .before .before .before .blocks) .gives (m23 (before .before) (before .put-line-arg .given))) → Typed.Mo T32
+      abbrev pub m27 : (before : After-put-line-unchecked-arg) → (given : s23 (before .before .before .before .before .before .before .before .before .blocks) .gives (m23 (before .before) (before .put-line-unchecked-arg .given))) → Typed.Mo T32
       m27 = λ before given. s28 (before .before .before .before .before .before .before .before .before .blocks) .next (m26 before given)
 
       abbrev pub Need-loop-less : Type 0
-      Need-loop-less = (c : After-put-line) → Nat._<_ (μ·0 (Row.get 1 (T9 .locals) (m8 (c .before .before .before .before .before .before .before .before) (After-least·gave (c .before .before .before .before .before .before .before)))) (Row.get 2 (T9 .locals) (m8 (c .before .before .before .before .before .before .before .before) (After-least·gave (c .before .before .before .before .before .before .before))) .now) (Row.get 4 (T9 .locals) (m8 (c .before .before .before .before .before .before .before .before) (After-least·gave (c .before .before .before .before .before .before .before))) .now) (Row.get 5 (T9 .locals) (m8 (c .before .before .before .before .before .before .before .before) (After-least·gave (c .before .before .before .before .before .before .before))) .now) (Row.get 6 (T9 .locals) (m8 (c .before .before .before .before .before .before .before .before) (After-least·gave (c .before .before .before .before .before .before .before)))) (Row.get 7 (T9 .locals) (m8 (c .before
-          .before .before .before .before .before .before .before) (After-least·gave (c .before .before .before .before .before .before .before)))) (Row.get 8 (T9 .locals) (m8 (c .before .before .before .before .before .before .before .before) (After-least·gave (c .before .before .before .before .before .before .before)))) (Row.get 9 (T9 .locals) (m8 (c .before .before .before .before .before .before .before .before) (After-least·gave (c .before .before .before .before .before .before .before)))) (Row.get 5 (T9 .locals) (m27 (c .before) (After-put-line·gave c)) .now) (Row.get 7 (T9 .locals) (m27 (c .before) (After-put-line·gave c))) (Row.get 8 (T9 .locals) (m27 (c .before) (After-put-line·gave c))) (Row.get 9 (T9 .locals) (m27 (c .before) (After-put-line·gave c)))) (μ·0 (Row.get 1 (T9 .locals) (m8 (c .before .before .before .before .before .before .before .before) (After-least·gave (c .before .before .before .before .before .before .before)))) (Row.get 2 (T9 .locals) (m8 (c .before
-          .before .before .before .before .before .before .before) (After-least·gave (c .before .before .before .before .before .before .before))) .now) (Row.get 4 (T9 .locals) (m8 (c .before .before .before .before .before .before .before .before) (After-least·gave (c .before .before .before .before .before .before .before))) .now) (Row.get 5 (T9 .locals) (m8 (c .before .before .before .before .before .before .before .before) (After-least·gave (c .before .before .before .before .before .before .before))) .now) (Row.get 6 (T9 .locals) (m8 (c .before .before .before .before .before .before .before .before) (After-least·gave (c .before .before .before .before .before .before .before)))) (Row.get 7 (T9 .locals) (m8 (c .before .before .before .before .before .before .before .before) (After-least·gave (c .before .before .before .before .before .before .before)))) (Row.get 8 (T9 .locals) (m8 (c .before .before .before .before .before .before .before .before) (After-least·gave (c .before
-          .before .before .before .before .before .before)))) (Row.get 9 (T9 .locals) (m8 (c .before .before .before .before .before .before .before .before) (After-least·gave (c .before .before .before .before .before .before .before)))) (c .before .before .before .before .before .before .loop .out) (c .before .before .before .before .before .before .loop .begun) (c .before .before .before .before .before .before .loop .to) (c .before .before .before .before .before .before .loop .k))
+      Need-loop-less = (c : After-put-line-unchecked) → Nat._<_ (μ·0 (Row.get 1 (T9 .locals) (m8 (c .before .before .before .before .before .before .before .before) (After-least·gave (c .before .before .before .before .before .before .before)))) (Row.get 2 (T9 .locals) (m8 (c .before .before .before .before .before .before .before .before) (After-least·gave (c .before .before .before .before .before .before .before))) .now) (Row.get 4 (T9 .locals) (m8 (c .before .before .before .before .before .before .before .before) (After-least·gave (c .before .before .before .before .before .before .before))) .now) (Row.get 5 (T9 .locals) (m8 (c .before .before .before .before .before .before .before .before) (After-least·gave (c .before .before .before .before .before .before .before))) .now) (Row.get 6 (T9 .locals) (m8 (c .before .before .before .before .before .before .before .before) (After-least·gave (c .before .before .before .before .before .before .before)))) (Row.get 7 (T9 .locals) (m8 (c
+          .before .before .before .before .before .before .before .before) (After-least·gave (c .before .before .before .before .before .before .before)))) (Row.get 8 (T9 .locals) (m8 (c .before .before .before .before .before .before .before .before) (After-least·gave (c .before .before .before .before .before .before .before)))) (Row.get 9 (T9 .locals) (m8 (c .before .before .before .before .before .before .before .before) (After-least·gave (c .before .before .before .before .before .before .before)))) (Row.get 5 (T9 .locals) (m27 (c .before) (After-put-line-unchecked·gave c)) .now) (Row.get 7 (T9 .locals) (m27 (c .before) (After-put-line-unchecked·gave c))) (Row.get 8 (T9 .locals) (m27 (c .before) (After-put-line-unchecked·gave c))) (Row.get 9 (T9 .locals) (m27 (c .before) (After-put-line-unchecked·gave c)))) (μ·0 (Row.get 1 (T9 .locals) (m8 (c .before .before .before .before .before .before .before .before) (After-least·gave (c .before .before .before .before .before .before
+          .before)))) (Row.get 2 (T9 .locals) (m8 (c .before .before .before .before .before .before .before .before) (After-least·gave (c .before .before .before .before .before .before .before))) .now) (Row.get 4 (T9 .locals) (m8 (c .before .before .before .before .before .before .before .before) (After-least·gave (c .before .before .before .before .before .before .before))) .now) (Row.get 5 (T9 .locals) (m8 (c .before .before .before .before .before .before .before .before) (After-least·gave (c .before .before .before .before .before .before .before))) .now) (Row.get 6 (T9 .locals) (m8 (c .before .before .before .before .before .before .before .before) (After-least·gave (c .before .before .before .before .before .before .before)))) (Row.get 7 (T9 .locals) (m8 (c .before .before .before .before .before .before .before .before) (After-least·gave (c .before .before .before .before .before .before .before)))) (Row.get 8 (T9 .locals) (m8 (c .before .before .before .before .before .before
+          .before .before) (After-least·gave (c .before .before .before .before .before .before .before)))) (Row.get 9 (T9 .locals) (m8 (c .before .before .before .before .before .before .before .before) (After-least·gave (c .before .before .before .before .before .before .before)))) (c .before .before .before .before .before .before .loop .out) (c .before .before .before .before .before .before .loop .begun) (c .before .before .before .before .before .before .loop .to) (c .before .before .before .before .before .before .loop .k))
 
       abbrev pub Need-loop-again : Type 0
-      Need-loop-again = (c : After-put-line) → Inv·0 (Row.get 1 (T9 .locals) (m8 (c .before .before .before .before .before .before .before .before) (After-least·gave (c .before .before .before .before .before .before .before)))) (Row.get 2 (T9 .locals) (m8 (c .before .before .before .before .before .before .before .before) (After-least·gave (c .before .before .before .before .before .before .before))) .now) (Row.get 4 (T9 .locals) (m8 (c .before .before .before .before .before .before .before .before) (After-least·gave (c .before .before .before .before .before .before .before))) .now) (Row.get 5 (T9 .locals) (m8 (c .before .before .before .before .before .before .before .before) (After-least·gave (c .before .before .before .before .before .before .before))) .now) (Row.get 6 (T9 .locals) (m8 (c .before .before .before .before .before .before .before .before) (After-least·gave (c .before .before .before .before .before .before .before)))) (Row.get 7 (T9 .locals) (m8 (c .before .before
-          .before .before .before .before .before .before) (After-least·gave (c .before .before .before .before .before .before .before)))) (Row.get 8 (T9 .locals) (m8 (c .before .before .before .before .before .before .before .before) (After-least·gave (c .before .before .before .before .before .before .before)))) (Row.get 9 (T9 .locals) (m8 (c .before .before .before .before .before .before .before .before) (After-least·gave (c .before .before .before .before .before .before .before)))) (Row.get 5 (T9 .locals) (m27 (c .before) (After-put-line·gave c)) .now) (Row.get 7 (T9 .locals) (m27 (c .before) (After-put-line·gave c))) (Row.get 8 (T9 .locals) (m27 (c .before) (After-put-line·gave c))) (Row.get 9 (T9 .locals) (m27 (c .before) (After-put-line·gave c)))
+      Need-loop-again = (c : After-put-line-unchecked) → Inv·0 (Row.get 1 (T9 .locals) (m8 (c .before .before .before .before .before .before .before .before) (After-least·gave (c .before .before .before .before .before .before .before)))) (Row.get 2 (T9 .locals) (m8 (c .before .before .before .before .before .before .before .before) (After-least·gave (c .before .before .before .before .before .before .before))) .now) (Row.get 4 (T9 .locals) (m8 (c .before .before .before .before .before .before .before .before) (After-least·gave (c .before .before .before .before .before .before .before))) .now) (Row.get 5 (T9 .locals) (m8 (c .before .before .before .before .before .before .before .before) (After-least·gave (c .before .before .before .before .before .before .before))) .now) (Row.get 6 (T9 .locals) (m8 (c .before .before .before .before .before .before .before .before) (After-least·gave (c .before .before .before .before .before .before .before)))) (Row.get 7 (T9 .locals) (m8 (c
+          .before .before .before .before .before .before .before .before) (After-least·gave (c .before .before .before .before .before .before .before)))) (Row.get 8 (T9 .locals) (m8 (c .before .before .before .before .before .before .before .before) (After-least·gave (c .before .before .before .before .before .before .before)))) (Row.get 9 (T9 .locals) (m8 (c .before .before .before .before .before .before .before .before) (After-least·gave (c .before .before .before .before .before .before .before)))) (Row.get 5 (T9 .locals) (m27 (c .before) (After-put-line-unchecked·gave c)) .now) (Row.get 7 (T9 .locals) (m27 (c .before) (After-put-line-unchecked·gave c))) (Row.get 8 (T9 .locals) (m27 (c .before) (After-put-line-unchecked·gave c))) (Row.get 9 (T9 .locals) (m27 (c .before) (After-put-line-unchecked·gave c)))
 
       abbrev pub m28 : (before : At-loop) → Typed.Mo T33
       m28 = λ before. s29 (before .before .before .before .blocks) (m13 before)
@@ -1293,39 +1293,55 @@ module _ (claims· : Claims) where
       abbrev pub Need-returns : Type 0
       Need-returns = (c : After-loop) → Post· (c .before .before .before .before .κs) (dens (c .before .before .before .before .κs) (c .before .before .before .before .args)) (Function.resV r (c .before .before .before .before .κs) (m33 (c .before) .0)) (Clauses.atExit (Kinds.endedOf 3 ps r) (c .before .before .before .before .κs) (dens (c .before .before .before .before .κs) (c .before .before .before .before .args)) (Enter.lastsP (c .before .before .before .before .κs) 1 ps xs (dens (c .before .before .before .before .κs) (c .before .before .before .before .args)) (m33 (c .before) .1)))
 
-      module _ (least-requires : Need-least-requires) (loop-holds : Need-loop-holds) (shared-slice-read-feed : Need-shared-slice-read-feed) (feed-requires : Need-feed-requires) (put-line-requires : Need-put-line-requires) (add-k : Need-add-k) (loop-less : Need-loop-less) (loop-again : Need-loop-again) (returns : Need-returns) where
+      module _ (least-requires : Need-least-requires) (loop-holds : Need-loop-holds) (shared-slice-read-feed : Need-shared-slice-read-feed) (feed-requires : Need-feed-requires) (put-line-unchecked-requires : Need-put-line-unchecked-requires) (add-k : Need-add-k) (loop-less : Need-loop-less) (loop-again : Need-loop-again) (returns : Need-returns) where
         lay7 : (c : After-loop) → at33 (c .before .before .before .before .blocks) (W0 (c .before .before .before .before .κs) (c .before .before .before .before .args) (c .before .before .before .before .blocks)) (m13 (c .before))
         lay7 = λ c. ((tt, (Path'.refl, (tt, (Path'.refl, (Path'.refl, tt))))), returns record { before = c .before; loop-test = c .loop-test })
 
-        lay6 : (c : After-put-line) → at10 (c .before .before .before .before .before .before .before .before .before .blocks) (W3 (c .before .before .before .before .before .before .before) (c .before .before .before .before .before .before .loop .out) (c .before .before .before .before .before .before .loop .begun) (c .before .before .before .before .before .before .loop .to) (c .before .before .before .before .before .before .loop .k)) (m24 (c .before) (After-put-line·gave c))
+        lay6 : (c : After-put-line-unchecked) → at10 (c .before .before .before .before .before .before .before .before .before .blocks) (W3 (c .before .before .before .before .before .before .before) (c .before .before .before .before .before .before .loop .out) (c .before .before .before .before .before .before .loop .begun) (c .before .before .before .before .before .before .loop .to) (c .before .before .before .before .before .before .loop .k)) (m24 (c .before) (After-put-line-unchecked·gave c))
         lay6 = λ c. (
           Path'.refl,
           (
-            add-k record { before = c .before; put-line = c .put-line },
+            add-k record { before = c .before; put-line-unchecked = c .put-line-unchecked },
             (
-              μ·0 (Row.get 1 (T9 .locals) (m8 (c .before .before .before .before .before .before .before .before) (After-least·gave (c .before .before .before .before .before .before .before)))) (Row.get 2 (T9 .locals) (m8 (c .before .before .before .before .before .before .before .before) (After-least·gave (c .before .before .before .before .before .before .before))) .now) (Row.get 4 (T9 .locals) (m8 (c .before .before .before .before .before .before .before .before) (After-least·gave (c .before .before .before .before .before .before .before))) .now) (Row.get 5 (T9 .locals) (m8 (c .before .before .before .before .before .before .before .before) (After-least·gave (c .before .before .before .before .before .before .before))) .now) (Row.get 6 (T9 .locals) (m8 (c .before .before .before .before .before .before .before .before) (After-least·gave (c .before .before .before .before .before .before .before))))
-                  (Row.get 7 (T9 .locals) (m8 (c .before .before .before .before .before .before .before .before) (After-least·gave (c .before .before .before .before .before .before .before)))) (Row.get 8 (T9 .locals) (m8 (c .before .before .before .before .before .before .before .before) (After-least·gave (c .before .before .before .before .before .before .before)))) (Row.get 9 (T9 .locals) (m8 (c .before .before .before .before .before .before .before .before) (After-least·gave (c .before .before .before .before .before .before .before)))) (Row.get 5 (T9 .locals) (m27 (c .before) (After-put-line·gave c)) .now) (Row.get 7 (T9 .locals) (m27 (c .before) (After-put-line·gave c))) (Row.get 8 (T9 .locals) (m27 (c .before) (After-put-line·gave c))) (Row.get 9 (T9 .locals) (m27 (c .before) (After-put-line·gave c))),
-              loop-less record { before = c .before; put-line = c .put-line },
+              μ·0 (Row.get 1 (T9 .locals) (m8 (c .before .before .before .before .before .before .before .before) (After-least·gave (c .before .before .before .before .before .before .before)))) (Row.get 2 (T9 .locals) (m8 (c .before .before .before .before .before .before .before .before) (After-least·gave (c .before .before .before .before .before .before .before))) .now) (Row.get 4 (T9 .locals) (m8 (c .before .before .before .before .before .before .before .before) (After-least·gave (c .before .before .before .before .before .before .before))) .now) (Row.get 5 (T9 .locals) (m8 (c .before .before .before .before .before .before .before .before) (After-least·gave (c .before .before .before .before .before .before .before))) .now) (Row.get 6 (T9 .locals) (m8 (c .before .before .before .before .before .before .before .before) (After-least·gave (c .before .before .before .before .before
+                  .before .before)))) (Row.get 7 (T9 .locals) (m8 (c .before .before .before .before .before .before .before .before) (After-least·gave (c .before .before .before .before .before .before .before)))) (Row.get 8 (T9 .locals) (m8 (c .before .before .before .before .before .before .before .before) (After-least·gave (c .before .before .before .before .before .before .before)))) (Row.get 9 (T9 .locals) (m8 (c .before .before .before .before .before .before .before .before) (After-least·gave (c .before .before .before .before .before .before .before)))) (Row.get 5 (T9 .locals) (m27 (c .before) (After-put-line-unchecked·gave c)) .now) (Row.get 7 (T9 .locals) (m27 (c .before) (After-put-line-unchecked·gave c))) (Row.get 8 (T9 .locals) (m27 (c .before) (After-put-line-unchecked·gave c))) (Row.get 9 (T9 .locals) (m27 (c .before) (After-put-line-unchecked·gave c))),
+              loop-less record { before = c .before; put-line-unchecked = c .put-line-unchecked },
               (
                 (
-                  Row.get 5 (T9 .locals) (m27 (c .before) (After-put-line·gave c)) .now,
-                  Row.get 7 (T9 .locals) (m27 (c .before)
-                      (After-put-line·gave c)),
-                  Row.get 8 (T9 .locals) (m27 (c .before) (After-put-line·gave c)),
-                  Row.get 9 (T9 .locals) (m27 (c .before) (After-put-line·gave c)),
+                  Row.get 5 (T9 .locals) (m27 (c
+                      .before) (After-put-line-unchecked·gave c)) .now,
+                  Row.get 7 (T9 .locals) (m27 (c .before) (After-put-line-unchecked·gave c)),
+                  Row.get 8 (T9 .locals) (m27 (c .before) (After-put-line-unchecked·gave c)),
+                  Row.get 9 (T9 .locals) (m27 (c .before) (After-put-line-unchecked·gave c)),
                 ),
-                Path'.refl {a = m27 (c .before) (After-put-line·gave c)},
-                loop-again record { before = c .before; put-line = c .put-line },
-                Path'.refl {a = μ·0 (Row.get 1 (T9 .locals) (m8 (c .before .before .before .before .before .before .before .before) (After-least·gave (c .before .before .before .before .before .before .before)))) (Row.get 2 (T9 .locals) (m8 (c .before .before .before .before .before .before .before .before) (After-least·gave (c .before .before .before .before .before .before .before))) .now) (Row.get 4 (T9 .locals) (m8 (c .before .before .before .before .before .before .before .before) (After-least·gave (c .before .before .before .before .before .before .before))) .now) (Row.get 5 (T9 .locals) (m8 (c .before .before .before .before .before .before .before .before) (After-least·gave (c .before .before .before
-                    .before .before .before .before))) .now) (Row.get 6 (T9 .locals) (m8 (c .before .before .before .before .before .before .before .before) (After-least·gave (c .before .before .before .before .before .before .before)))) (Row.get 7 (T9 .locals) (m8 (c .before .before .before .before .before .before .before .before) (After-least·gave (c .before .before .before .before .before .before .before)))) (Row.get 8 (T9 .locals) (m8 (c .before .before .before .before .before .before .before .before) (After-least·gave (c .before .before .before .before .before .before .before)))) (Row.get 9 (T9 .locals) (m8 (c .before .before .before .before .before .before .before .before) (After-least·gave (c .before .before .before .before .before .before .before)))) (Row.get 5 (T9 .locals) (m27 (c .before) (After-put-line·gave c)) .now) (Row.get 7 (T9 .locals) (m27 (c .before) (After-put-line·gave c))) (Row.get 8 (T9 .locals) (m27 (c .before) (After-put-line·gave c))) (Row.get 9 (T9 .locals) (m27 (c
-                    .before) (After-put-line·gave c)))},
+                Path'.refl {a = m27 (c .before) (After-put-line-unchecked·gave c)},
+                loop-again record { before = c .before; put-line-unchecked = c .put-line-unchecked },
+                Path'.refl {a = μ·0 (Row.get 1 (T9 .locals) (m8 (c .before .before .before .before .before .before .before .before) (After-least·gave (c .before .before .before .before .before .before .before)))) (Row.get 2 (T9 .locals) (m8 (c .before .before .before .before .before .before .before .before) (After-least·gave (c .before .before .before .before .before .before .before))) .now) (Row.get 4 (T9 .locals) (m8 (c .before .before .before .before .before .before .before .before) (After-least·gave (c .before .before .before .before .before .before .before)))
+                    .now) (Row.get 5 (T9 .locals) (m8 (c .before .before .before .before .before .before .before .before) (After-least·gave (c .before .before .before .before .before .before .before))) .now) (Row.get 6 (T9 .locals) (m8 (c .before .before .before .before .before .before .before .before) (After-least·gave (c .before .before .before .before .before .before .before)))) (Row.get 7 (T9 .locals) (m8 (c .before .before .before .before .before .before .before .before) (After-least·gave (c .before .before .before .before .before .before .before)))) (Row.get 8 (T9 .locals) (m8 (c .before .before .before .before .before .before .before .before) (After-least·gave (c .before .before .before .before .before .before .before)))) (Row.get 9 (T9 .locals) (m8 (c .before .before .before .before .before .before .before .before) (After-least·gave (c .before .before .before .before .before .before .before)))) (Row.get 5 (T9 .locals) (m27 (c .before) (After-put-line-unchecked·gave c)) .now) (Row.get 7
+                    (T9 .locals) (m27 (c .before) (After-put-line-unchecked·gave c))) (Row.get 8 (T9 .locals) (m27 (c .before) (After-put-line-unchecked·gave c))) (Row.get 9 (T9 .locals) (m27 (c .before) (After-put-line-unchecked·gave c)))},
               ),
             ),
           ),
         )
 
         lay5 : (c : After-feed) → at17 (c .before .before .before .before .before .before .blocks) (W3 (c .before .before .before .before) (c .before .before .before .loop .out) (c .before .before .before .loop .begun) (c .before .before .before .loop .to) (c .before .before .before .loop .k)) (m18 (c .before) (After-feed·gave c))
-        lay5 = λ c. (tt, λ g. (tt, λ g'. (Relend.count-is T25 15 16 (λ x. x) (λ u. 65536) (m22 record { before = record { before = c .before; feed = c .feed }; begun = record { given = g } } g') (Path'.sym (g' .0 .1)), (put-line-requires record { before = record { before = record { before = c .before; feed = c .feed }; begun = record { given = g } }; put-line-arg = record { given = g' } }, λ g''. lay6 record { before = record { before = record { before = record { before = c .before; feed = c .feed }; begun = record { given = g } }; put-line-arg = record { given = g' } }; put-line = Called.called ps·2 r·2 (claims· .5) T26 (record { pos = 16; ty = S.tyRef S.erased S.mut (S.tyInt S.w8); ref = λ x. x }, (Num.vAt 8 λ x. x, (record { pos = 10; st = S.field 1 ∷ []; d = 40; at = λ x. Turn.struct .as-values x .1 .0 }, tt))) (m23 record { before = record { before = c .before; feed = c .feed }; begun = record { given = g } } g') g'' }))))
+        lay5 = λ c. (
+          tt,
+          λ g. (
+            tt,
+            λ g'. (
+              Relend.count-is T25 15 16 (λ x. x) (λ u. 65536) (m22 record { before = record { before = c .before; feed = c .feed }; begun = record { given = g } } g') (Path'.sym (g' .0 .1)),
+              (
+                put-line-unchecked-requires record { before = record { before = record { before = c .before; feed = c .feed }; begun = record { given = g } }; put-line-unchecked-arg = record { given = g' } },
+                λ g''. lay6 record {
+                  before = record { before = record { before = record { before = c .before; feed = c .feed }; begun = record { given = g } }; put-line-unchecked-arg = record { given = g' } };
+                  put-line-unchecked = Called.called ps·2 r·2 (claims· .5) T26 (record { pos = 16; ty = S.tyRef S.erased S.mut (S.tyInt S.w8); ref = λ x. x }, (Num.vAt 8 λ x. x, (record { pos = 10; st = S.field 1 ∷ []; d = 40; at = λ x. Turn.struct .as-values x .1 .0 }, tt))) (m23 record { before = record { before = c .before; feed = c .feed }; begun = record { given = g } } g')
+                      g'';
+                },
+              ),
+            ),
+          ),
+        )
 
         lay4 : (c : In-loop) → at22 (c .before .before .before .before .blocks) (W3 (c .before .before) (c .before .loop .out) (c .before .loop .begun) (c .before .loop .to) (c .before .loop .k)) (m11 (c .before))
         lay4 = λ c. (tt, λ g. ((Path'.refl, Path'.refl, shared-slice-read-feed record { before = record { before = c .before; loop-test = c .loop-test }; shared-slice-known2 = record { given = g } }), (feed-requires record { before = record { before = c .before; loop-test = c .loop-test }; shared-slice-known2 = record { given = g } }, λ g'. lay5 record { before = record { before = record { before = c .before; loop-test = c .loop-test }; shared-slice-known2 = record { given = g } }; feed = Called.called ps·1 r·1 (claims· .3) T19 (record { pos = 1; st = []; d = 0; at = λ x. x }, (record { pos = 2; ty = S.tyRef (S.named 0) S.imm PlaceKind.named; ref = λ x. x }, (record { pos = 7; st = []; d = 0; at = λ x. x }, (Num.vAt 14 λ x. x, tt)))) (m17 record { before = c .before; loop-test = c .loop-test } g) g' })))
@@ -1367,6 +1383,6 @@ module _ (claims· : Claims) where
           pub asked : (a : Kinds.Dens κs ps) → (good : Kinds.GoodsP κs ps a) → (pre : Pre· κs a) → (bs : List Nat.ℕ) → Φ bs (Any.wantQ 3 ps r xs m κs qs a (Post· κs a)) (Function.init 3 ps r xs m κs qs a)
           asked = λ a good pre bs. laid record { κs = κs; args = record { sheet = a .0; table = a .1 .0; begun = a .1 .1 .0; input = a .1 .1 .1 .0; out = a .1 .1 .1 .1 .0 }; blocks = bs; good = good; pre = pre }
 
-        module _ {M : Type 1} (𝓤 : URA.URA M) (H : Wp.Heap 𝓤) (A : Atoms.Atoms 𝓤) (W : Kit.Given 𝓤 H A) (𝓣 : Wp.Tables 𝓤 H) (known0 : Plain.Known 𝓤 H A W 𝓣 0 ps·0 r·0 (claims· .0) (claims· .1) "programs::least") (known1 : Plain.Known 𝓤 H A W 𝓣 1 ps·1 r·1 (claims· .2) (claims· .3) "programs::feed") (known2 : Plain.Known 𝓤 H A W 𝓣 1 ps·2 r·2 (claims· .4) (claims· .5) "programs::put_line") where
+        module _ {M : Type 1} (𝓤 : URA.URA M) (H : Wp.Heap 𝓤) (A : Atoms.Atoms 𝓤) (W : Kit.Given 𝓤 H A) (𝓣 : Wp.Tables 𝓤 H) (known0 : Plain.Known 𝓤 H A W 𝓣 0 ps·0 r·0 (claims· .0) (claims· .1) "programs::least") (known1 : Plain.Known 𝓤 H A W 𝓣 1 ps·1 r·1 (claims· .2) (claims· .3) "programs::feed") (known2 : Plain.Known 𝓤 H A W 𝓣 1 ps·2 r·2 (claims· .4) (claims· .5) "programs::put_line_unchecked") where
           pub spec : Statement.Triple 𝓤 (Wp.WpFn 𝓤 H (𝓣 .C) (𝓣 .Λ) (Function.fnOf 3 ps r xs m hs body)) (Function.plainOf 𝓤 H A 3 ps r Pre· Post·)
           spec = Plain.t-fn-plain 𝓤 H A W 𝓣 3 ps r xs m hs body (λ κs qs bs. Φ bs) (λ κs qs bs bd. typed κs qs 𝓤 H A W 𝓣 (known0, known1, known2) bs bd) Pre· Post· asked

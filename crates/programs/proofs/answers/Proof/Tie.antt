@@ -10,9 +10,9 @@ use Rattle.programs.proofs.feed.Symbol
 use Rattle.programs.proofs.least.Met as Met'
 use Rattle.programs.proofs.least.Reads as Reads''
 use Rattle.programs.proofs.least.Symbol as Symbol'
-use Rattle.programs.proofs.put_line.Met as Met''
-use Rattle.programs.proofs.put_line.Reads as Reads'3
-use Rattle.programs.proofs.put_line.Symbol as Symbol''
+use Rattle.programs.proofs.put_line_unchecked.Met as Met''
+use Rattle.programs.proofs.put_line_unchecked.Reads as Reads'3
+use Rattle.programs.proofs.put_line_unchecked.Symbol as Symbol''
 use borrow.Fn.Run
 use borrow.Fn.Written
 use contract.Running
@@ -50,11 +50,11 @@ After-feed = λ Inv μ. Lts.After-feed (Reads''.Asked, Reads''.Learnt, Reads'.As
 abbrev pub After-begun : (Inv : InvT-loop) → (μ : MeasureT-loop) → Type 0
 After-begun = λ Inv μ. Lts.After-begun (Reads''.Asked, Reads''.Learnt, Reads'.Asked, Reads'.Learnt, Reads'3.Asked, Reads'3.Learnt) Reads.Pre Reads.Post Inv μ
 
-abbrev pub After-put-line-arg : (Inv : InvT-loop) → (μ : MeasureT-loop) → Type 0
-After-put-line-arg = λ Inv μ. Lts.After-put-line-arg (Reads''.Asked, Reads''.Learnt, Reads'.Asked, Reads'.Learnt, Reads'3.Asked, Reads'3.Learnt) Reads.Pre Reads.Post Inv μ
+abbrev pub After-put-line-unchecked-arg : (Inv : InvT-loop) → (μ : MeasureT-loop) → Type 0
+After-put-line-unchecked-arg = λ Inv μ. Lts.After-put-line-unchecked-arg (Reads''.Asked, Reads''.Learnt, Reads'.Asked, Reads'.Learnt, Reads'3.Asked, Reads'3.Learnt) Reads.Pre Reads.Post Inv μ
 
-abbrev pub After-put-line : (Inv : InvT-loop) → (μ : MeasureT-loop) → Type 0
-After-put-line = λ Inv μ. Lts.After-put-line (Reads''.Asked, Reads''.Learnt, Reads'.Asked, Reads'.Learnt, Reads'3.Asked, Reads'3.Learnt) Reads.Pre Reads.Post Inv μ
+abbrev pub After-put-line-unchecked : (Inv : InvT-loop) → (μ : MeasureT-loop) → Type 0
+After-put-line-unchecked = λ Inv μ. Lts.After-put-line-unchecked (Reads''.Asked, Reads''.Learnt, Reads'.Asked, Reads'.Learnt, Reads'3.Asked, Reads'3.Learnt) Reads.Pre Reads.Post Inv μ
 
 abbrev pub Need-least-requires : (Inv : InvT-loop) → (μ : MeasureT-loop) → Type 0
 Need-least-requires = λ Inv μ. Lts.Need-least-requires (Reads''.Asked, Reads''.Learnt, Reads'.Asked, Reads'.Learnt, Reads'3.Asked, Reads'3.Learnt) Reads.Pre Reads.Post Inv μ
@@ -68,8 +68,8 @@ Need-shared-slice-read-feed = λ Inv μ. Lts.Need-shared-slice-read-feed (Reads'
 abbrev pub Need-feed-requires : (Inv : InvT-loop) → (μ : MeasureT-loop) → Type 0
 Need-feed-requires = λ Inv μ. Lts.Need-feed-requires (Reads''.Asked, Reads''.Learnt, Reads'.Asked, Reads'.Learnt, Reads'3.Asked, Reads'3.Learnt) Reads.Pre Reads.Post Inv μ
 
-abbrev pub Need-put-line-requires : (Inv : InvT-loop) → (μ : MeasureT-loop) → Type 0
-Need-put-line-requires = λ Inv μ. Lts.Need-put-line-requires (Reads''.Asked, Reads''.Learnt, Reads'.Asked, Reads'.Learnt, Reads'3.Asked, Reads'3.Learnt) Reads.Pre Reads.Post Inv μ
+abbrev pub Need-put-line-unchecked-requires : (Inv : InvT-loop) → (μ : MeasureT-loop) → Type 0
+Need-put-line-unchecked-requires = λ Inv μ. Lts.Need-put-line-unchecked-requires (Reads''.Asked, Reads''.Learnt, Reads'.Asked, Reads'.Learnt, Reads'3.Asked, Reads'3.Learnt) Reads.Pre Reads.Post Inv μ
 
 abbrev pub Need-add-k : (Inv : InvT-loop) → (μ : MeasureT-loop) → Type 0
 Need-add-k = λ Inv μ. Lts.Need-add-k (Reads''.Asked, Reads''.Learnt, Reads'.Asked, Reads'.Learnt, Reads'3.Asked, Reads'3.Learnt) Reads.Pre Reads.Post Inv μ
@@ -84,9 +84,9 @@ abbrev pub Need-returns : (Inv : InvT-loop) → (μ : MeasureT-loop) → Type 0
 Need-returns = λ Inv μ. Lts.Need-returns (Reads''.Asked, Reads''.Learnt, Reads'.Asked, Reads'.Learnt, Reads'3.Asked, Reads'3.Learnt) Reads.Pre Reads.Post Inv μ
 
 module _ {M : Type 1} where
-  pub spec : (Inv : InvT-loop) → (μ : MeasureT-loop) → (answer : Need-least-requires Inv μ) → (answer : Need-loop-holds Inv μ) → (answer : Need-shared-slice-read-feed Inv μ) → (answer : Need-feed-requires Inv μ) → (answer : Need-put-line-requires Inv μ) → (answer : Need-add-k Inv μ) → (answer : Need-loop-less Inv μ) → (answer : Need-loop-again Inv μ) → (answer : Need-returns Inv μ) → Lts.Closed (Reads''.Asked, Reads''.Learnt, Reads'.Asked, Reads'.Learnt, Reads'3.Asked, Reads'3.Learnt) Reads.Pre Reads.Post M
+  pub spec : (Inv : InvT-loop) → (μ : MeasureT-loop) → (answer : Need-least-requires Inv μ) → (answer : Need-loop-holds Inv μ) → (answer : Need-shared-slice-read-feed Inv μ) → (answer : Need-feed-requires Inv μ) → (answer : Need-put-line-unchecked-requires Inv μ) → (answer : Need-add-k Inv μ) → (answer : Need-loop-less Inv μ) → (answer : Need-loop-again Inv μ) → (answer : Need-returns Inv μ) → Lts.Closed (Reads''.Asked, Reads''.Learnt, Reads'.Asked, Reads'.Learnt, Reads'3.Asked, Reads'3.Learnt) Reads.Pre Reads.Post M
   spec = λ Inv μ answer answer' answer'' answer'3 answer'4 answer'5 answer'6 answer'7 answer'8. Lts.spec (Reads''.Asked, Reads''.Learnt, Reads'.Asked, Reads'.Learnt, Reads'3.Asked, Reads'3.Learnt) Reads.Pre Reads.Post Inv μ answer answer' answer'' answer'3 answer'4 answer'5 answer'6 answer'7 answer'8
 
   pub close : Lts.Closed (Reads''.Asked, Reads''.Learnt, Reads'.Asked, Reads'.Learnt, Reads'3.Asked, Reads'3.Learnt) Reads.Pre Reads.Post M → Statement.statement M
   unfolding Code.routine Running.tablesOf
-  close = λ closed 𝓤 H 𝓜 𝓖 𝓡. Written.close 3 Reads.ps Reads.r Reads.Ghost Reads.requires Reads.ensures Reads.pre-read Reads.Pinned Reads.Owned Reads.post-read record { M = M; 𝓤 = 𝓤; H = H; 𝓜 = 𝓜; 𝓖 = 𝓖; 𝓡 = 𝓡 } Code.env Key.name Code.function (Code.unfolded 𝓤 H 𝓜 𝓡) (λ κs a g. tt) (λ κs. Reads.owns κs record { M = M; 𝓤 = 𝓤; H = H; 𝓜 = 𝓜; 𝓖 = 𝓖; 𝓡 = 𝓡 }) (Reads.passes record { M = M; 𝓤 = 𝓤; H = H; 𝓜 = 𝓜; 𝓖 = 𝓖; 𝓡 = 𝓡 }) λ g. closed 𝓤 H (𝓖 .A) (Running.givenOf 𝓤 H 𝓜 𝓖) (Run.Over 𝓤 H 𝓜 𝓖 𝓡 Code.env) (Reads''.known record { M = M; 𝓤 = 𝓤; H = H; 𝓜 = 𝓜; 𝓖 = 𝓖; 𝓡 = 𝓡 } Code.env Symbol'.name Symbol'.routine Code.calls-programs·least (Met'.met 𝓤 H 𝓜 𝓖 𝓡)) (Reads'.known record { M = M; 𝓤 = 𝓤; H = H; 𝓜 = 𝓜; 𝓖 = 𝓖; 𝓡 = 𝓡 } Code.env Symbol.name Symbol.routine Code.calls-programs·feed (Met.met 𝓤 H 𝓜 𝓖 𝓡)) (Reads'3.known record { M = M; 𝓤 = 𝓤; H = H; 𝓜 = 𝓜; 𝓖 = 𝓖; 𝓡 = 𝓡 } Code.env Symbol''.name Symbol''.routine Code.calls-programs·put-line (Met''.met 𝓤 H 𝓜 𝓖 𝓡))
+  close = λ closed 𝓤 H 𝓜 𝓖 𝓡. Written.close 3 Reads.ps Reads.r Reads.Ghost Reads.requires Reads.ensures Reads.pre-read Reads.Pinned Reads.Owned Reads.post-read record { M = M; 𝓤 = 𝓤; H = H; 𝓜 = 𝓜; 𝓖 = 𝓖; 𝓡 = 𝓡 } Code.env Key.name Code.function (Code.unfolded 𝓤 H 𝓜 𝓡) (λ κs a g. tt) (λ κs. Reads.owns κs record { M = M; 𝓤 = 𝓤; H = H; 𝓜 = 𝓜; 𝓖 = 𝓖; 𝓡 = 𝓡 }) (Reads.passes record { M = M; 𝓤 = 𝓤; H = H; 𝓜 = 𝓜; 𝓖 = 𝓖; 𝓡 = 𝓡 }) λ g. closed 𝓤 H (𝓖 .A) (Running.givenOf 𝓤 H 𝓜 𝓖) (Run.Over 𝓤 H 𝓜 𝓖 𝓡 Code.env) (Reads''.known record { M = M; 𝓤 = 𝓤; H = H; 𝓜 = 𝓜; 𝓖 = 𝓖; 𝓡 = 𝓡 } Code.env Symbol'.name Symbol'.routine Code.calls-programs·least (Met'.met 𝓤 H 𝓜 𝓖 𝓡)) (Reads'.known record { M = M; 𝓤 = 𝓤; H = H; 𝓜 = 𝓜; 𝓖 = 𝓖; 𝓡 = 𝓡 } Code.env Symbol.name Symbol.routine Code.calls-programs·feed (Met.met 𝓤 H 𝓜 𝓖 𝓡)) (Reads'3.known record { M = M; 𝓤 = 𝓤; H = H; 𝓜 = 𝓜; 𝓖 = 𝓖; 𝓡 = 𝓡 } Code.env Symbol''.name Symbol''.routine Code.calls-programs·put-line-unchecked (Met''.met 𝓤 H 𝓜 𝓖 𝓡))
