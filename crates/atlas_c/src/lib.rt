@@ -2,6 +2,9 @@
 //
 // A function that can refuse gives the refusal's number, 0 where it accepts; on refusal its out-parameters are untouched. A sheet goes in and
 // out as its record's bytes.
+
+#![tactic(auto)]
+
 ghost use Rattle.std.specs.Prelude.{◌≡◌, true, [], ◌∷◌, ◌++◌, map, ◌*◌, ◌≤◌, pos, length, drop};
 ghost use Rattle.refusal.specs.Numbers.{number_of};
 ghost use Rattle.sheet.specs.Sheets.{passes_checks};

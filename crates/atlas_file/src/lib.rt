@@ -1,6 +1,9 @@
 // The atlas file (document 01, 'The atlas file'): the reader's step from record to record, and reading through.
 //
 // A function whose name ends in _unchecked is not offered to callers, as in trig.
+
+#![tactic(auto)]
+
 mod reading;
 
 ghost use Rattle.std.specs.Prelude.{◌≡◌, true, [], ◌+◌, ◌<◌, length, get_or, drop};

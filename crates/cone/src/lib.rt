@@ -2,6 +2,9 @@
 // (document 01, 'From globe to map' and 'From map to globe'). n is the cone constant, w the half-width.
 //
 // No function here is offered to callers, as the ending _unchecked says.
+
+#![tactic(auto)]
+
 ghost use Rattle.std.specs.Prelude.{◌≡◌, ◌≤◌, pos, ◌-ℤ◌, ◌*ℤ◌, ◌<ℤ◌};
 ghost use Rattle.std.specs.Int.Signed.{le_z};
 ghost use Rattle.arith.specs.Bounds.{Size};

@@ -2,6 +2,9 @@
 // to globe').
 //
 // A function whose name ends in _unchecked is not offered to callers, as in trig.
+
+#![tactic(auto)]
+
 ghost use Rattle.std.specs.Prelude.{◌≡◌, true, pos};
 ghost use Rattle.arith.specs.Bounds.{Size};
 ghost use Rattle.trig.specs.Trig.{sine_limit};

@@ -1,4 +1,7 @@
 // Prints how crowded the places of the atlas file on standard input are (document 02, E2).
+
+#![tactic(auto)]
+
 use libc::{STDIN_FILENO, STDOUT_FILENO};
 use programs::FILE_SIZE;
 

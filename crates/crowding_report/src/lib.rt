@@ -1,5 +1,8 @@
 // The crowding report of a file (document 02, E2): a line for each place, in file order, with its id and how many others lie within the
 // usual reach of it.
+
+#![tactic(auto)]
+
 ghost use Rattle.std.specs.Prelude.{◌≤◌, ◌≡◌, length, pos};
 ghost use Rattle.arith.specs.Bounds.{Within};
 ghost use Rattle.nearest.specs.Taps.{reach_limit, within_reach};

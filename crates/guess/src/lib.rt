@@ -1,6 +1,9 @@
 // Guesses by floats, for a root and for the offset of a map point. Nothing has to be proved of how near they come: each is tried by an exact test
 // in whole numbers, and where it fails a loop finds the answer, so that a bad guess costs time and changes no answer. A contract says how large a
 // guess may be, and no more. Not offered to callers.
+
+#![tactic(auto)]
+
 ghost use Rattle.std.specs.Prelude.{pos};
 ghost use Rattle.arith.specs.Bounds.{Size};
 

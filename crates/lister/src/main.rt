@@ -1,4 +1,7 @@
 // Lists the atlas file on standard input (document 01, 'Two programs').
+
+#![tactic(auto)]
+
 use libc::{STDIN_FILENO, STDOUT_FILENO};
 use programs::FILE_SIZE;
 

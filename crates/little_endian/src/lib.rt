@@ -1,6 +1,9 @@
 // 32-bit numbers in four bytes, the lowest first; a signed number in two's complement (document 01, 'The atlas file').
 //
 // A function whose name ends in _unchecked is not offered to callers, as in trig.
+
+#![tactic(auto)]
+
 ghost use Rattle.std.specs.Prelude.{◌≡◌, ◌+◌, ◌*◌, ◌≤◌, ◌<◌, length};
 ghost use Rattle.little_endian.specs.Numbers.{u32_at, i32_at, signed, unsigned, u32_bytes, numbers_bytes, put};
 

@@ -1,4 +1,7 @@
 // Places of an atlas file by the file's bytes alone, for callers that keep no table: the place at a position, and the place nearest to a tap.
+
+#![tactic(auto)]
+
 ghost use Rattle.std.specs.Prelude.{◌≡◌, ◌≤◌, length, take};
 ghost use Rattle.lookup.specs.Lookups.{lookup_reply_of, found_answer, refused_answer, place_at_reply, nearest_among, nearest_place_reply};
 

@@ -2,6 +2,9 @@
 // from it, in units, a place may lie to be found.
 //
 // A function whose name ends in _unchecked is not offered to callers, as in trig.
+
+#![tactic(auto)]
+
 ghost use Rattle.std.specs.Prelude.{◌≡◌, [], ◌∷◌, pos};
 ghost use Rattle.arith.specs.Bounds.{Size};
 ghost use Rattle.nearest.specs.Taps.{tap_limit, tap_in_range, squared, squared_distance, candidate_at, is_before, within_reach_from, is_better, best_of, best_reply, nearest_reply, difference_limit, usual_reach, nearest_reply_of};

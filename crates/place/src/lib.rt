@@ -2,6 +2,9 @@
 // 'Numbers that come back').
 //
 // A function whose name ends in _unchecked is not offered to callers, as in trig.
+
+#![tactic(auto)]
+
 ghost use Rattle.std.specs.Prelude.{◌≡◌, true, []};
 ghost use Rattle.refusal.specs.Numbers.{accepted};
 ghost use Rattle.refusal.specs.Rules.{in_order};

@@ -2,6 +2,9 @@
 // program prints at each part of its input.
 //
 // A function whose name ends in _unchecked is not offered to callers, as in trig.
+
+#![tactic(auto)]
+
 ghost use Rattle.std.specs.Prelude.{◌≡◌, ◌+◌, ◌≤◌, min, length};
 ghost use Rattle.atlas_file.specs.Steps.{most_places};
 ghost use Rattle.atlas_file.specs.Reading.{read_reply, places_read};

@@ -1,4 +1,7 @@
 // The reader of document 01, 'The atlas file', as one value that carries the file's bytes and its position: a thin cover over atlas_file's step.
+
+#![tactic(auto)]
+
 ghost use Rattle.std.specs.Prelude.{◌≡◌};
 ghost use Rattle.atlas_file.specs.Steps.{step_reply_of, step_reply};
 ghost use Rattle.atlas_file.specs.Reading.{start_of, read_reply, file_reply_of};

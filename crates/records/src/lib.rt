@@ -2,6 +2,9 @@
 // the end. A record is its kind byte and its body.
 //
 // A function whose name ends in _unchecked is not offered to callers, as in trig.
+
+#![tactic(auto)]
+
 ghost use Rattle.std.specs.Prelude.{◌≡◌, ◌+◌, ◌*◌, ◌≤◌, ◌<◌, length, take, drop};
 ghost use Rattle.little_endian.specs.Numbers.{put};
 ghost use Rattle.records.specs.Records.{layout_reply_of, layout_reply, IsRecord, sheet_of, sheet_record, place_of, place_record, end_of, end_record};

@@ -1,4 +1,7 @@
 // The refusals, and the number that document 01 gives each ('Numbers that come back').
+
+#![tactic(auto)]
+
 ghost use Rattle.std.specs.Prelude.{◌≡◌};
 ghost use Rattle.refusal.specs.Numbers.{number_of};
 

@@ -2,6 +2,9 @@
 // words). A unit is a millionth of a degree of arc; map coordinates are in the same unit.
 //
 // A function whose name ends in _unchecked is not offered to callers, as in trig.
+
+#![tactic(auto)]
+
 ghost use Rattle.std.specs.Prelude.{◌≡◌, true, ◌≤◌, pos};
 ghost use Rattle.arith.specs.Bounds.{Size};
 ghost use Rattle.trig.specs.Trig.{angle_of, cosine_of};

@@ -1,6 +1,9 @@
 // A table of places that the caller lends: a slice of structs. Only these two functions look into it.
 //
 // A function whose name ends in _unchecked is not offered to callers, as in trig.
+
+#![tactic(auto)]
+
 ghost use Rattle.std.specs.Prelude.{◌≡◌, ◌<◌, length, get_or, set};
 ghost use Rattle.place.specs.Places.{blank_place};
 

@@ -1,4 +1,7 @@
 // Answers taps on the map of `atlas.bin`, a line of standard input each (document 01, 'Two programs').
+
+#![tactic(auto)]
+
 ghost use Rattle.std.specs.Prelude.{◌≤◌, ◌≡◌, length};
 ghost use Rattle.io.specs.Counts.{IsPrefixLen};
 

@@ -4,6 +4,9 @@
 //
 // A sheet is passed as nine numbers, in the order of its record. A function that can refuse gives the refusal's number, 0 where it accepts.
 // Out arrays are overwritten in full, with zeros where there is no value.
+
+#![tactic(auto)]
+
 ghost use Rattle.std.specs.Prelude.{◌≡◌, [], pos, length};
 ghost use Rattle.arith.specs.Bounds.{Size};
 ghost use Rattle.refusal.specs.Numbers.{number_of};

@@ -1,5 +1,8 @@
 // The text that the programs read and write (document 01, 'Two programs'), in ASCII: numbers in decimal, the lines that are printed, and the
 // line of a tap.
+
+#![tactic(auto)]
+
 ghost use Rattle.std.specs.Prelude.{◌≡◌, [], ◌<◌, length};
 ghost use Rattle.refusal.specs.Numbers.{number_of};
 ghost use Rattle.text.specs.Decimals.{digit, decimal as digits, signed};

@@ -3,6 +3,9 @@
 //
 // A function whose name ends in _unchecked is not offered to callers: it is for a number that is known to be in range, and the
 // proof of each function that calls it shows that. The function without that ending takes any number, checks, and refuses.
+
+#![tactic(auto)]
+
 ghost use Rattle.std.specs.Prelude.{◌≡◌, ◌+◌, ◌*◌, ◌≤◌, pos, nat_abs};
 ghost use Rattle.arith.specs.Bounds.{Size, Within, size_up_to};
 ghost use Rattle.trig.specs.Trig.{angle_of, angle_reply, cosine_row, IsRow, IsSquare, square_of, series_of, sine_of, sine_reply, cosine_of, cosine_reply, root_below, root_of, root_reply, angle_limit, sine_limit, root_limit, reply_of};
