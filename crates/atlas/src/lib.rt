@@ -66,7 +66,7 @@ pub fn place_of_unchecked(bytes: &[u8], first: usize, position: usize) -> Place
 }
 
 // What writing a file comes to.
-#[derive(Drop)]
+#[derive(Clone, Copy)]
 pub enum WriteAnswer {
     // It is written: the file's length.
     Written { length: usize },

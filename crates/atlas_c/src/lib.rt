@@ -267,7 +267,7 @@ fn number(r: Refusal) -> u32
 }
 
 // The sheet whose record the bytes are, or why they are none.
-#[derive(Drop)]
+#[derive(Clone, Copy)]
 enum SheetAnswer {
     Sheet(Sheet),
     Refused(Refusal),

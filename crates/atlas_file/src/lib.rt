@@ -26,7 +26,7 @@ use sheet::{Sheet, Verdict};
 pub const MOST_PLACES: usize = 1000;
 
 // Where a reader stands.
-#[derive(Drop)]
+#[derive(Clone, Copy)]
 pub struct State {
     // The position of the next record's kind byte.
     pub at: usize,
@@ -41,7 +41,7 @@ pub struct State {
 }
 
 // What a step finds.
-#[derive(Drop)]
+#[derive(Clone, Copy)]
 pub enum Found {
     Sheet(Sheet),
     // The place is beside it in the answer.
@@ -51,7 +51,7 @@ pub enum Found {
 }
 
 // What a step answers.
-#[derive(Drop)]
+#[derive(Clone, Copy)]
 pub struct StepAnswer {
     pub found: Found,
     // The place that was found, or zeros.

@@ -22,7 +22,7 @@ pub fn start(room: usize) -> State
 }
 
 // What reading a file comes to.
-#[derive(Drop)]
+#[derive(Clone, Copy)]
 pub enum FileAnswer {
     // It is accepted: how many places it has, and its sheet.
     Atlas { count: usize, sheet: Sheet },

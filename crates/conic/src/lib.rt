@@ -23,7 +23,7 @@ use trig::{ONE, SineCosine};
 const POINT_LIMIT: u32 = 536870912;
 
 // What forward answers: a point of the map, in units, or why there is none.
-#[derive(Drop)]
+#[derive(Clone, Copy)]
 pub enum MapAnswer {
     Point { x: i64, y: i64 },
     Refused(Refusal),
@@ -85,14 +85,14 @@ fn point_at(r0: i64, r: i64, t: i64) -> MapAnswer
 }
 
 // What inverse answers: a position on the globe, in units, or why there is none.
-#[derive(Drop)]
+#[derive(Clone, Copy)]
 pub enum GlobeAnswer {
     Position { latitude: i64, longitude: i64 },
     Refused(Refusal),
 }
 
 // What map to globe needs that depends on the sheet alone: the radius of the map's origin, and sine and cosine at both edges.
-#[derive(Drop)]
+#[derive(Clone, Copy)]
 pub struct EdgeValues {
     pub origin_radius: i64,
     pub west: SineCosine,
@@ -100,7 +100,7 @@ pub struct EdgeValues {
 }
 
 // The edge values, and by how much the sine rises at least from an offset to the next: worked out once for many points.
-#[derive(Drop)]
+#[derive(Clone, Copy)]
 pub struct InverseValues {
     pub edges: EdgeValues,
     pub least_rise: i64,

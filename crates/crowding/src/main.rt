@@ -2,13 +2,12 @@
 
 #![tactic(auto)]
 
-use libc::{STDIN_FILENO, STDOUT_FILENO};
 use programs::FILE_SIZE;
 
-fn main() {
+fn main(rt: HostRuntime) {
     let mut file = [0u8; FILE_SIZE];
-    let length = io::read_full(STDIN_FILENO, &mut file);
-    let mut text = io::large_buffer();
+    let length = streams::read_full(&mut rt.stdin(), &mut file);
+    let mut text = [0u8; 65536];
     let end = crowding_report::report(&file[..length], &mut text);
-    io::write_all(STDOUT_FILENO, &text[..end]);
+    streams::write_all(&mut rt.stdout(), &text[..end]);
 }

@@ -11,14 +11,14 @@ use place::Place;
 use refusal::Refusal;
 
 // What was found: the place's position in the file, counted from 0; or the refusal, with its offset if it is the file that is refused.
-#[derive(Drop)]
+#[derive(Clone, Copy)]
 pub enum Lookup {
     Place { position: usize },
     Refused { refusal: Refusal, offset: usize },
 }
 
 // What a lookup answers.
-#[derive(Drop)]
+#[derive(Clone, Copy)]
 pub struct LookupAnswer {
     pub found: Lookup,
     // The place that was found, or zeros.

@@ -23,7 +23,7 @@ const TAP_LIMIT: u32 = 536870912;
 const REACH_LIMIT: i64 = 1048576;
 
 // A place by what the order compares: its squared distance from the tap, its id, and its position in the table.
-#[derive(Drop)]
+#[derive(Clone, Copy)]
 pub struct Candidate {
     pub squared_distance: u64,
     pub id: u32,
@@ -40,7 +40,7 @@ pub fn is_before(a: Candidate, b: Candidate) -> bool
 }
 
 // What nearest answers: the position in the table of the nearest place, counted from 0, or why there is none.
-#[derive(Drop)]
+#[derive(Clone, Copy)]
 pub enum NearestAnswer {
     At { position: usize },
     Refused(Refusal),
@@ -68,7 +68,7 @@ pub fn nearest_in_usual_reach(table: &[Place], x: i64, y: i64) -> NearestAnswer
 }
 
 // The first by `is_before` of the places that were looked at and are within reach.
-#[derive(Drop)]
+#[derive(Clone, Copy)]
 enum Best {
     Nothing,
     Found(Candidate),

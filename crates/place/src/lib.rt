@@ -22,7 +22,7 @@ pub const NAME_LENGTH: usize = 16;
 
 // A place of the map. Latitude, longitude, x and y are in units. It is laid out as C does it, for tests that lend tables of places.
 #[repr(C)]
-#[derive(Drop)]
+#[derive(Clone, Copy)]
 pub struct Place {
     pub id: u32,
     pub latitude: i32,

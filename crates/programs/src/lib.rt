@@ -85,7 +85,7 @@ fn put_places(out: &mut [u8], at: usize, file: &[u8], first: usize, count: usize
 pub const BEGUN_SIZE: usize = 25;
 
 // The first bytes of a line of taps, as far as it is read, up to BEGUN_SIZE.
-#[derive(Drop)]
+#[derive(Clone, Copy)]
 pub struct Begun {
     pub bytes: [u8; BEGUN_SIZE],
     pub length: usize,
@@ -102,7 +102,7 @@ pub fn begin() -> Begun
 }
 
 // What comes of a part of the input: the line that is begun then, and how many bytes are printed.
-#[derive(Drop)]
+#[derive(Clone, Copy)]
 pub struct Answered {
     pub begun: Begun,
     pub length: usize,
@@ -145,7 +145,7 @@ fn least(a: usize, b: usize) -> usize
 }
 
 // What comes of a byte of the input: the line that is begun then, and what is printed.
-#[derive(Drop)]
+#[derive(Clone, Copy)]
 struct Turn {
     begun: Begun,
     printed: Line,

@@ -9,7 +9,7 @@ ghost use Rattle.atlas_file.specs.Reading.{start_of, read_reply, file_reply_of};
 use atlas_file::{FileAnswer, Found, State, StepAnswer};
 
 // A reader that carries its file and where it stands in it.
-#[derive(Drop)]
+#[derive(Clone, Copy)]
 pub struct Reader<'a> {
     // The file.
     pub bytes: &'a [u8],

@@ -33,7 +33,7 @@ pub const PLACE_RECORD: usize = 37;
 pub const END_RECORD: usize = 5;
 
 // Which record it is.
-#[derive(Drop)]
+#[derive(Clone, Copy)]
 pub enum Record {
     Sheet,
     Place,
@@ -41,7 +41,7 @@ pub enum Record {
 }
 
 // What a kind byte says: which record it begins, and how many bytes its body has.
-#[derive(Drop)]
+#[derive(Clone, Copy)]
 pub enum Layout {
     Known { record: Record, body: usize },
     Refused(Refusal),
@@ -119,7 +119,7 @@ fn name_at(bytes: &[u8], at: usize) -> [u8; 16]
     ensures { result ≡ take 16 (drop at bytes.now) }
 {
     let mut name = [0u8; 16];
-    bytes::copy(&bytes[at..at + NAME_LENGTH], &mut name);
+    name.copy_from_slice(&bytes[at..at + NAME_LENGTH]);
     name
 }
 
@@ -128,7 +128,7 @@ fn put_name(out: &mut [u8], at: usize, name: [u8; 16])
     requires { at + 16 ≤ length out.old }
     ensures { out.new ≡ put out.old at name }
 {
-    bytes::copy(&name, &mut out[at..at + NAME_LENGTH]);
+    out[at..at + NAME_LENGTH].copy_from_slice(&name);
 }
 
 // The place of a place's record; not offered to callers.

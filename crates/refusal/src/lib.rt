@@ -6,7 +6,7 @@ ghost use Rattle.std.specs.Prelude.{◌≡◌};
 ghost use Rattle.refusal.specs.Numbers.{number_of};
 
 // Why there is no answer: to a file, a sheet, a number, a coordinate or a tap. A refusal is document 01's word for it.
-#[derive(Drop)]
+#[derive(Clone, Copy)]
 pub enum Refusal {
     // The file ends within a record, or before its end record.
     Cut,

@@ -18,7 +18,7 @@ const TOLERANCE: u32 = 32;
 
 // A sheet of the equidistant conic projection: an area between two latitudes and two longitudes, drawn on a cone. Its numbers are in
 // units, but for the cone constant.
-#[derive(Drop)]
+#[derive(Clone, Copy)]
 pub struct Sheet {
     // The parallels at which the scale is true.
     pub first_parallel: i32,
@@ -55,7 +55,7 @@ pub fn blank() -> Sheet
 }
 
 // What check answers.
-#[derive(Drop)]
+#[derive(Clone, Copy)]
 pub enum Verdict {
     Good,
     Refused(Refusal),

@@ -3,45 +3,42 @@
 #![tactic(auto)]
 
 ghost use Rattle.std.specs.Prelude.{◌≤◌, ◌≡◌, length};
-ghost use Rattle.io.specs.Counts.{IsPrefixLen};
+ghost use Rattle.tap.specs.Counts.{IsPrefixLen};
 
 use atlas_file::{FileAnswer, MOST_PLACES};
-use libc::{STDIN_FILENO, STDOUT_FILENO};
 use place::Place;
 use programs::{FILE_SIZE, PART_SIZE};
 use sheet::Sheet;
+use std::fs;
 use text::{LINE_SIZE, Line};
 
-fn main() {
+fn main(rt: HostRuntime) {
     let mut file = [0u8; FILE_SIZE];
-    let length = read_atlas(&mut file);
-    answer_taps(&file[..length]);
+    let length = read_atlas(&rt, &mut file);
+    answer_taps(&rt, &file[..length]);
 }
 
 // Reads `atlas.bin`; what cannot be opened counts as empty, and a read that fails is its end. It is closed before anything else is read or
 // written, so that it stands in for no standard stream that was closed.
-fn read_atlas(file: &mut [u8; FILE_SIZE]) -> usize
+fn read_atlas(rt: &HostRuntime, file: &mut [u8; FILE_SIZE]) -> usize
     ensures { IsPrefixLen result file.new }
 {
-    let descriptor = os::open_read(b"atlas.bin");
-    if descriptor < 0 {
-        return 0;
+    match fs::open(rt, "atlas.bin") {
+        Ok(mut opened) => streams::read_full(&mut opened, file),
+        Err(_) => 0,
     }
-    let length = io::read_full(descriptor, file);
-    libc::close(descriptor);
-    length
 }
 
 // Answers taps on a file's map, or tells why it is refused.
-fn answer_taps(file: &[u8]) {
+fn answer_taps(rt: &HostRuntime, file: &[u8]) {
     let mut table = blank_table();
     let answer = atlas::read(file, &mut table);
     match answer {
         FileAnswer::Atlas { count, sheet } => {
-            answer_lines(sheet, &table, count);
+            answer_lines(rt, sheet, &table, count);
         }
         FileAnswer::Refused { refusal, offset } => {
-            print(text::file_refused_line(refusal, offset));
+            print(rt, text::file_refused_line(refusal, offset));
         }
     }
 }
@@ -56,43 +53,40 @@ fn blank_table() -> [Place; MOST_PLACES]
 
 // Answers each line of standard input by the first `count` places of a table, until the input ends or cannot be read, or an answer cannot be
 // written. A proved loop has to end: this one ends after 2^64 - 1 reads, more than any run has, as at the end of the input.
-fn answer_lines(sheet: Sheet, table: &[Place], count: usize)
+fn answer_lines(rt: &HostRuntime, sheet: Sheet, table: &[Place], count: usize)
     requires { count ≤ length table.now }
 {
     let mut begun = programs::begin();
-    let mut out = io::large_buffer();
-    let mut reads = u64::MAX;
-    while 0 < reads {
+    let mut out = [0u8; 65536];
+    for _ in 0..u64::MAX {
         let mut input = [0u8; PART_SIZE];
-        let filled = read_some(&mut input);
+        let filled = read_some(rt, &mut input);
         if filled == 0 {
             break;
         }
         let answered = programs::answers(sheet, &table[..count], begun, &input[..filled], &mut out);
         begun = answered.begun;
         let end = answered.length;
-        let written = io::write_all(STDOUT_FILENO, &out[..end]);
+        let written = streams::write_all(&mut rt.stdout(), &out[..end]);
         if !written {
             return;
         }
-        reads -= 1;
     }
-    print(programs::finish(sheet, &table[..count], begun));
+    print(rt, programs::finish(sheet, &table[..count], begun));
 }
 
 // Reads what there is of standard input, up to PART_SIZE bytes; 0 at its end.
-fn read_some(input: &mut [u8; PART_SIZE]) -> usize
+fn read_some(rt: &HostRuntime, input: &mut [u8; PART_SIZE]) -> usize
     ensures { IsPrefixLen result input.new }
 {
-    let got = libc::read(STDIN_FILENO, input);
-    io::count(got, input)
+    streams::read_some(&mut rt.stdin(), input)
 }
 
 // Writes a line.
-fn print(line: Line) {
+fn print(rt: &HostRuntime, line: Line) {
     let bytes = line.bytes;
     let start = line.start;
     if start <= LINE_SIZE {
-        io::write_all(STDOUT_FILENO, &bytes[start..]);
+        streams::write_all(&mut rt.stdout(), &bytes[start..]);
     }
 }

@@ -17,7 +17,7 @@ use refusal::Refusal;
 pub const LINE_SIZE: usize = 64;
 
 // A line of up to LINE_SIZE bytes: those from `start` on.
-#[derive(Drop)]
+#[derive(Clone, Copy)]
 pub struct Line {
     pub bytes: [u8; LINE_SIZE],
     pub start: usize,
@@ -98,7 +98,7 @@ pub fn crowd_line(id: u32, others: usize) -> Line
 }
 
 // What a tap's line says.
-#[derive(Drop)]
+#[derive(Clone, Copy)]
 pub enum LineAnswer {
     Point { x: i64, y: i64 },
     Refused(Refusal),
@@ -221,7 +221,7 @@ const LONGEST_TAP: usize = 24;
 const TOO_LARGE: u64 = 536870913;
 
 // A coordinate of a tap: whether it is a number in range, and that number, else 0.
-#[derive(Drop)]
+#[derive(Clone, Copy)]
 struct Coordinate {
     good: bool,
     value: i64,

@@ -31,7 +31,7 @@ const ROOT_LIMIT: i64 = 1152921504606846976;
 const FACTORS: [[u32; 6]; 2] = [[6, 20, 42, 72, 110, 156], [2, 12, 30, 56, 90, 132]];
 
 // What angle, sine, cosine and root answer.
-#[derive(Drop)]
+#[derive(Clone, Copy)]
 pub enum Answer {
     Value(i64),
     Refused(Refusal),
@@ -103,7 +103,7 @@ pub fn cosine_unchecked(t: i64) -> i64
 }
 
 // The sine and the cosine of one angle.
-#[derive(Drop)]
+#[derive(Clone, Copy)]
 pub struct SineCosine {
     pub sine: i64,
     pub cosine: i64,
@@ -204,7 +204,7 @@ fn root_by_bits(q: i64) -> i64
 }
 
 // The root from below, q = root² + remainder with the remainder at most 2 × root.
-#[derive(Drop)]
+#[derive(Clone, Copy)]
 struct RootBelow {
     root: u64,
     remainder: u64,

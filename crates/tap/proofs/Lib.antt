@@ -1,2 +1,0 @@
--- What is derived of the program's functions.
-pub mod Derived
