@@ -1,5 +1,5 @@
 -- One offset settles where a point lies, if the point lies nearer to it than to the offsets beside it. Assumes nothing.
-use mathlib.Core.Path.{◌≡◌, sym, subst}
+use mathlib.Core.Path.{◌≡◌, subst}
 use mathlib.Core.Bool.{true, false}
 use mathlib.Core.List.{[], ◌∷◌}
 use mathlib.Core.Logic.{◌⊎◌, inl, inr, ⊎_elim}
@@ -21,7 +21,7 @@ use Rattle.cone.specs.Settled.{east_of, least_rise}
 use Rattle.cone.specs.Laws.{SineRisesLeast, SettledHere, SettledBefore}
 use Rattle.cone.proofs.ConeAngles.{cone_angle_size, cone_angle_further, cone_angle_rises}
 use Rattle.cone.proofs.Directions.{sine_at-rises, sine_at-neg, cosine_at-neg, rises, toward}
-use Rattle.cone.proofs.Halving.{IsLast, is_last}
+use Rattle.cone.proofs.Halving.{is_last}
 use Rattle.cone.proofs.Cuts.{only}
 
 pub sine-rises_least : SineRisesLeast
