@@ -5,7 +5,6 @@ use native.Mathlib.Omega.{arith}
 use lib.ListN.{drop, length-drop, length-take, drop_of_length-le}
 use lib.Seq.{take_all}
 use Rattle.place.specs.declared.Place.{Place}
-use Rattle.records.specs.declared.Record.TheVariants as records
 use Rattle.little_endian.specs.Numbers.{i32_at, u32_bytes, numbers_bytes}
 use Rattle.records.specs.Records.{layout_of, place_of, place_record, end_of, end_record}
 use Rattle.records.specs.Laws.{PlaceKind, PlaceBack, PlaceForth, PlaceLength, PlaceDecoded, EndKind, EndBack, EndForth, EndLength}
