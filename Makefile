@@ -1,7 +1,6 @@
 # make test: everything that checks. make demo: what there is to see. make library: the library for C.
 # make deps: Debian's packages, as root. make witness: the projection against PROJ. make bench: how long it takes, beside PROJ.
-# make derive: the generated proofs made again.
-.PHONY: test demo library deps witness bench derive
+.PHONY: test demo library deps witness bench
 
 test:
 	@tools/test
@@ -20,6 +19,3 @@ witness:
 
 bench:
 	@tools/bench
-
-derive:
-	@tools/derive/derive.py
