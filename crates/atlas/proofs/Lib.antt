@@ -1,5 +1,4 @@
 -- What the proofs of the crate's functions cite, and the laws of its specs/.
-pub mod Derived
 pub mod FilePlaces
 pub mod PlacesInTurn
 pub mod BufferParts

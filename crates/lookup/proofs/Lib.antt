@@ -1,3 +1,2 @@
--- What is derived of the crate's functions, and that two answers of a lookup never share a reply.
-pub mod Derived
+-- Two answers of a lookup never share a reply.
 pub mod Answers

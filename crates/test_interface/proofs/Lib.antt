@@ -1,3 +1,2 @@
--- What the functions store, read back from its bits, and what is derived of them.
-pub mod Derived
+-- What the functions store, read back from its bits.
 pub mod Bits
