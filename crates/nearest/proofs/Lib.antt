@@ -6,4 +6,3 @@ pub mod WithinReach
 pub mod Answers
 pub mod NearestLaws
 pub mod Turns
-pub mod Derived
