@@ -1,3 +1,2 @@
 -- The laws of the answer, and what callers read of the contracts.
 pub mod Answers
-pub mod Derived
