@@ -13,7 +13,7 @@ use Rattle.records.specs.declared.Record.TheVariants as records
 use Rattle.place.specs.declared.Place.{Place}
 use Rattle.atlas_file.specs.declared.State.{State}
 use Rattle.records.specs.Records.{sheet_of, sheet_record, place_of}
-use Rattle.atlas_file.specs.Steps.{refused_step}
+use Rattle.atlas_file.specs.Steps.{past_place, refused_step}
 use Rattle.atlas_file.specs.Reading.{Reading, refused_reading, start_of, read_from}
 use Rattle.integrity.specs.Integrity.{RoomEnough, RoomShort}
 use Rattle.records.proofs.SheetRecords.{sheet-as_long}
@@ -57,7 +57,7 @@ no_room {b} {s} (suc n) other places (goes r rest i at few _ ok run) read m f h 
     let fits : s.«count» < other = ltb-true _ _ e in
     let offset : s.«at» + length r + 37 * (other - (s.«count» + 1)) ≡ s.«at» + 37 * (other - s.«count») = omega (arith, place-length r i) in
     ap (after_step n b t places) (place-reads b t r rest i at read few fits ok)
-    ∙ no_room n other (places ++ (place_of r ∷ [])) run read (omega arith) (omega arith) (omega arith)
+    ∙ no_room {s = past_place s r} n other (places ++ (place_of r ∷ [])) run read (omega arith) (omega arith) (omega arith)
     ∙ ap (refused_reading NoRoom) offset)
     (λ e.
     let full : other ≤ s.«count» = ltb-false _ _ e in

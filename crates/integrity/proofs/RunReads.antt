@@ -118,7 +118,7 @@ run_reads {b} {s} (suc n) places (goes {ps = ps} r rest i at few room ok run) re
     let count : s.«count» + 1 + length ps ≡ s.«count» + suc (length ps) = omega arith in
     read_turn n b s places
     ∙ ap (after_step n b s places) (place-reads b s r rest i at read few room ok)
-    ∙ run_reads n (places ++ (place_of r ∷ [])) run read (omega arith)
+    ∙ run_reads {s = past_place s r} n (places ++ (place_of r ∷ [])) run read (omega arith)
     ∙ (λ j. accepted_reading (count j) s.«sheet» (append_snoc places (place_of r) ps j))
 
 -- a file that begins with a good sheet's record is read on behind it
