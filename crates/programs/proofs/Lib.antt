@@ -1,5 +1,4 @@
--- What is derived of the crate's functions, and the laws of what is printed.
-pub mod Derived
+-- The laws of what is printed.
 pub mod Listings
 pub mod Answering
 pub mod InReach
