@@ -2,18 +2,15 @@
 use mathlib.Core.Path.{◌≡◌, refl, sym, ap, ◌∙◌}
 use Prim.Native.Nat.{ℕ}
 use native.Mathlib.Omega.{arith}
-use borrow.Author.Rules.{rules}
 use mir.Facts.{to_z-of_z}
 use lib.ListN.{length, take}
 use lib.Seq.{take_at}
 use Rattle.refusal.proofs.Distinct.{not_zero}
 use Rattle.atlas_file.specs.Steps.{most_places}
-use Rattle.atlas_file.specs.Reading.{FileReply, accepted_file, file_reply_of, read_reply, places_read}
+use Rattle.atlas_file.specs.Reading.{FileReply, accepted_file, read_reply, places_read}
 use Rattle.atlas.proofs.FilePlaces.{accepted-file, accepted-count}
 use Rattle.lookup.specs.Lookups.{refused_answer, nearest_place_reply}
 use Rattle.lookup.proofs.nearest_place.Goals as goal
-
-
 use mathlib.Core.List.{List}
 use Rattle.sheet.specs.declared.Sheet.{Sheet}
 use Rattle.place.specs.declared.Place.{Place}

@@ -1,18 +1,15 @@
 -- `lookup::place_at` meets its contract. Assumes nothing.
-use mathlib.Core.Path.{◌≡◌, refl, sym, ap, ◌∙◌}
+use mathlib.Core.Path.{◌≡◌, refl, ap, ◌∙◌}
 use Prim.Native.Nat.{◌≤◌}
 use native.Mathlib.Omega.{arith}
-use borrow.Author.Rules.{rules}
 use borrow.Author.Tests.{lt-ltb, le-ltb}
 use lib.ListN.{length}
 use Rattle.refusal.proofs.Distinct.{not_zero}
 use Rattle.atlas_file.specs.Steps.{most_places}
-use Rattle.atlas_file.specs.Reading.{FileReply, accepted_file, file_reply_of, read_reply, places_read}
+use Rattle.atlas_file.specs.Reading.{FileReply, accepted_file, read_reply, places_read}
 use Rattle.atlas.proofs.FilePlaces.{accepted-file, accepted-count}
 use Rattle.lookup.specs.Lookups.{found_answer, refused_answer, place_among, place_at_reply}
 use Rattle.lookup.proofs.place_at.Goals as goal
-
-
 use mathlib.Core.List.{List}
 use Prim.Native.Nat.{ℕ}
 use Rattle.sheet.specs.declared.Sheet.{Sheet}

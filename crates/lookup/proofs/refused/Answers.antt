@@ -1,5 +1,4 @@
 -- `lookup::refused` meets its contract. Assumes nothing.
-use borrow.Author.Rules.{rules}
 use Rattle.lookup.specs.Lookups.{refused_answer}
 use Rattle.lookup.proofs.refused.Goals as goal
 
