@@ -13,6 +13,7 @@ use Rattle.integrity.specs.Integrity.{StandsAt}
 use Rattle.integrity.proofs.Accepted.{count-is_places, file_length_lem}
 use Rattle.integrity.proofs.Rooms.{room_enough}
 use Rattle.integrity.proofs.Stands.{place-stands}
+use Rattle.atlas.specs.declared.places.Places.{Places}
 use Rattle.atlas.specs.Tables.{AcceptedFile}
 
 -- what an answer of acceptance says of the file
@@ -38,3 +39,7 @@ module _ {b : List ℕ} {room first : ℕ} (a : AcceptedFile b room first) where
     good = ap (λ (X : Reading). X.reply.number) other-room ∙ a.good;
     starts = a.starts ∙ ap (λ (X : Reading). length (sheet_record X.reply.sheet)) (sym other-room);
   }
+
+-- there are as many as are counted, and no more than a file can have
+pub counted : (p : Places) → (p.count ≡ length (places_read p.bytes.now most_places)) × (p.count ≤ most_places)
+counted p = let n = accepted-count p.accepted in (p.counted ∙ n.0, omega (arith, n.1, p.counted))

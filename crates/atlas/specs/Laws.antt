@@ -1,5 +1,6 @@
 -- What holds of reading into a table and of writing into a buffer. Each is proved in proofs/, in the file that its comment names.
-use Rattle.std.specs.Prelude.{ℕ, ◌≤◌, ◌<◌, ◌≡◌, List, [], ◌∷◌, ◌++◌, length, take, drop, pos}
+use Rattle.std.specs.Prelude.{ℕ, ◌≤◌, ◌<◌, ◌≡◌, List, [], ◌∷◌, ◌++◌, length, take, drop, pos, Result}
+use Rattle.refusal.specs.declared.Refusal.{Refusal}
 use Rattle.refusal.specs.declared.Refusal.TheVariants.{Cut}
 use Rattle.refusal.specs.Numbers.{accepted}
 use Rattle.sheet.specs.declared.Sheet.{Sheet}
@@ -9,13 +10,12 @@ use Rattle.records.specs.Records.{IsSheet}
 use Rattle.atlas_file.specs.Reading.{accepted_file, refused_file, read_reply}
 use Rattle.atlas_file.specs.Writing.{file_of, write_reply}
 use Rattle.integrity.specs.Integrity.{ArePlaces}
-use Rattle.atlas.specs.declared.WriteAnswer.{WriteAnswer}
 use Rattle.atlas.specs.Tables.{table_after}
 use Rattle.atlas.specs.Buffers.{write_reply_of, buffer_after}
 
 -- two answers of the writer never share a number and values, so that the contract fixes the answer (Answers)
 abbrev pub DistinctWriteReplies : Type 0
-DistinctWriteReplies = (a b : WriteAnswer) → write_reply_of a ≡ write_reply_of b → a ≡ b
+DistinctWriteReplies = (a b : Result ℕ Refusal) → write_reply_of a ≡ write_reply_of b → a ≡ b
 
 -- A REFUSAL changes no table and no buffer (RoundTrips)
 abbrev pub RefusedTable : Type 0

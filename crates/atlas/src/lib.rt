@@ -16,29 +16,24 @@ ghost use Rattle.atlas_file.specs.Writing.{place_records, file_of, file_length, 
 ghost use Rattle.atlas.specs.Tables.{table_after, AcceptedFile};
 ghost use Rattle.atlas.specs.Buffers.{write_reply_of, buffer_after};
 
-use atlas_file::{FileAnswer, MOST_PLACES};
+mod places;
+
+use atlas_file::{Atlas, FileRefusal, MOST_PLACES};
 use place::Place;
+pub use places::Places;
 use records::{END_RECORD, PLACE_RECORD};
 use refusal::Refusal;
-use sheet::{Sheet, Verdict};
+use sheet::{CheckedSheet, Sheet};
 
 // Reads a file into a table: the count and the sheet, with the places in the first entries and later entries unchanged; or the refusal and
 // its offset, with the table untouched. No entry is stored before the whole file is accepted.
-pub fn read(bytes: &[u8], table: &mut [Place]) -> FileAnswer
+pub fn read(bytes: &[u8], table: &mut [Place]) -> Result<Atlas, FileRefusal>
     ensures { (file_reply_of result ≡ read_reply bytes.now (length table.old)) × (table.new ≡ table_after bytes.now table.old) }
 {
-    let answer = atlas_file::read_through(bytes, table.len());
-    match answer {
-        FileAnswer::Atlas { count, sheet } => {
-            let first = records::sheet_record_length(sheet);
-            store_places(bytes, table, first, count);
-        }
-        FileAnswer::Refused {
-            refusal: _,
-            offset: _,
-        } => {}
-    }
-    answer
+    let atlas = atlas_file::read_through(bytes, table.len())?;
+    let first = records::sheet_record_length(atlas.sheet);
+    store_places(bytes, table, first, atlas.count);
+    Ok(atlas)
 }
 
 // Stores the places of an accepted file in the first entries of a table.
@@ -46,87 +41,51 @@ fn store_places(bytes: &[u8], table: &mut [Place], first: usize, count: usize)
     requires { AcceptedFile bytes.now (length table.old) first × (count ≡ (read_reply bytes.now (length table.old)).count) }
     ensures { table.new ≡ table_after bytes.now table.old }
 {
-    let mut k = 0;
-    while k < count {
-        let place = place_of_unchecked(bytes, first, k);
-        table::set_place_unchecked(table, k, place);
-        k += 1;
+    let places = Places {
+        bytes,
+        first,
+        count,
+    };
+    for k in 0..count {
+        table[k] = places.place_unchecked(k);
     }
-}
-
-// The place at a position, counted from 0, of an accepted file whose first place's record starts at `first`; not offered to callers.
-pub fn place_of_unchecked(bytes: &[u8], first: usize, position: usize) -> Place
-    requires accepted_file { AcceptedFile bytes.now most_places first }
-    requires position_bound { position < (read_reply bytes.now most_places).count }
-    ensures { result ≡ get_or (places_read bytes.now most_places) position blank_place }
-{
-    let at = first + PLACE_RECORD * position;
-    let end = at + PLACE_RECORD;
-    records::decode_place_unchecked(&bytes[at..end])
-}
-
-// What writing a file comes to.
-#[derive(Clone, Copy)]
-pub enum WriteAnswer {
-    // It is written: the file's length.
-    Written { length: usize },
-    Refused(Refusal),
 }
 
 // Writes a sheet and a table of places into a buffer, and answers the file's length: 4, 5, 10 if there are more than 1,000 places, each place
 // in turn 6, 7, 8, 14, then 10 if the buffer is too short. A refusal leaves the buffer untouched. Bytes after the file are unchanged.
-pub fn write(sheet: Sheet, table: &[Place], buffer: &mut [u8]) -> WriteAnswer
+pub fn write(sheet: Sheet, table: &[Place], buffer: &mut [u8]) -> Result<usize, Refusal>
     ensures { (write_reply_of result ≡ write_reply sheet table.now (length buffer.old)) × (buffer.new ≡ buffer_after sheet table.now buffer.old) }
 {
-    let verdict = check_list(sheet, table);
-    match verdict {
-        Verdict::Good => {
-            let length = file_length(sheet, table.len());
-            if buffer.len() < length {
-                return WriteAnswer::Refused(Refusal::NoRoom);
-            }
-            write_file(sheet, table, buffer);
-            WriteAnswer::Written { length: length }
-        }
-        Verdict::Refused(r) => WriteAnswer::Refused(r),
+    check_list(sheet, table)?;
+    let length = file_length(sheet, table.len());
+    if buffer.len() < length {
+        return Err(Refusal::NoRoom);
     }
+    write_file(sheet, table, buffer);
+    Ok(length)
 }
 
 // Whether a sheet and a table of places may be a file: 4, 5, 10, each place in turn 6, 7, 8, 14.
-fn check_list(sheet: Sheet, table: &[Place]) -> Verdict
+fn check_list(sheet: Sheet, table: &[Place]) -> Result<(), Refusal>
     ensures { reply_of result ≡ in_order 0 (list_rules sheet table.now) (accepted []) }
 {
-    let verdict = sheet::check(sheet);
-    match verdict {
-        Verdict::Good => {
-            if MOST_PLACES < table.len() {
-                return Verdict::Refused(Refusal::NoRoom);
-            }
-            check_places(sheet, table)
-        }
-        Verdict::Refused(r) => Verdict::Refused(r),
+    let checked = CheckedSheet::new(sheet)?;
+    if MOST_PLACES < table.len() {
+        return Err(Refusal::NoRoom);
     }
+    check_places(checked, table)
 }
 
 // Each place in turn: 6, 7, 8, 14.
-fn check_places(sheet: Sheet, table: &[Place]) -> Verdict
-    requires { passes_checks sheet ≡ true }
-    ensures { reply_of result ≡ in_order 0 (places_rules sheet 0 0 table.now) (accepted []) }
+fn check_places(checked: CheckedSheet, table: &[Place]) -> Result<(), Refusal>
+    ensures { reply_of result ≡ in_order 0 (places_rules checked.sheet 0 0 table.now) (accepted []) }
 {
     let mut last_id = 0;
-    let mut k = 0;
-    while k < table.len() {
-        let place = table::place_at_unchecked(table, k);
-        let verdict = place::check_place_unchecked(sheet, k, last_id, place);
-        match verdict {
-            Verdict::Good => {
-                last_id = place.id;
-                k += 1;
-            }
-            Verdict::Refused(r) => return Verdict::Refused(r),
-        }
+    for (k, place) in table.iter().enumerate() {
+        place::check_place_on(checked, k, last_id, *place)?;
+        last_id = place.id;
     }
-    Verdict::Good
+    Ok(())
 }
 
 // The length of a file with so many places.
@@ -151,18 +110,16 @@ fn write_file(sheet: Sheet, table: &[Place], buffer: &mut [u8])
 }
 
 // Sets the record of each place into its own part of the buffer, the first at `first`. Gives the position after the last.
+// No plainer: by chunks_exact_mut a proof would know the buffer's length alone.
 fn write_places(table: &[Place], buffer: &mut [u8], first: usize) -> usize
     requires { first + 37 * length table.now ≤ length buffer.old }
     ensures { (result ≡ first + 37 * length table.now) × (buffer.new ≡ take first buffer.old ++ place_records table.now ++ drop result buffer.old) }
 {
-    let mut k = 0;
     let mut at = first;
-    while k < table.len() {
-        let place = table::place_at_unchecked(table, k);
+    for place in table {
         let end = at + PLACE_RECORD;
-        records::write_place_unchecked(&mut buffer[at..end], place);
+        records::write_place_unchecked(&mut buffer[at..end], *place);
         at = end;
-        k += 1;
     }
     at
 }

@@ -1,21 +1,21 @@
 -- What the C functions give and write, by the replies of the engine's own contracts.
-use Rattle.std.specs.Prelude.{ℕ, zero, suc, ◌+◌, ◌*◌, ◌/◌, ◌%◌, Bool, cond, List, [], ◌∷◌, ◌++◌, map, length, get_or, drop, eqb, leb, ℤ, pos}
+use Rattle.std.specs.Prelude.{ℕ, zero, suc, ◌+◌, ◌*◌, ◌/◌, ◌%◌, Bool, cond, List, [], ◌∷◌, ◌++◌, map, length, get_or, drop, eqb, leb, ℤ, pos, Result, Ok, Err}
+use Rattle.refusal.specs.declared.Refusal.{Refusal}
 use Rattle.refusal.specs.declared.Refusal.TheVariants.{Kind, TrailingBytes, NoRoom, OutOfRange}
 use Rattle.refusal.specs.Numbers.{Reply, number_of, accepted, refused}
 use Rattle.refusal.specs.Rules.{Rule, ◌else-refuse◌, outcome, in_order}
 use Rattle.sheet.specs.declared.Sheet.{Sheet}
+use Rattle.sheet.specs.declared.CheckedSheet.{CheckedSheet}
 use Rattle.conic.specs.Conic as forward
 use Rattle.conic.specs.MapToGlobe as inverse
 use Rattle.place.specs.declared.Place.{Place}
 use Rattle.records.specs.Records.{sheet_record}
 use Rattle.atlas_file.specs.declared.Found.{Found}
 use Rattle.atlas_file.specs.declared.Found.TheVariants as found
-use Rattle.atlas_file.specs.Steps.{most_places, step_of}
+use Rattle.atlas_file.specs.Steps.{StepAnswer, most_places, step_of}
 use Rattle.atlas_file.specs.Reading.{FileReply, read_reply, start_of}
 use Rattle.lookup.specs.Lookups.{place_at_reply, nearest_place_reply}
 use Rattle.lookup_all.specs.Positions.{positions_reply}
-use Rattle.atlas_c.specs.declared.SheetAnswer.{SheetAnswer}
-use Rattle.atlas_c.specs.declared.SheetAnswer.TheVariants as sheet
 
 -- the number that a call gives, and what its out-parameters hold then
 abbrev pub given : ℕ → List ℤ → Reply
@@ -60,22 +60,28 @@ nearest_reply b x y reach = given (nearest_place_reply b x y reach).number (pos 
 abbrev pub in_reach_reply : (file : List ℕ) (x y reach : ℤ) (room : ℕ) → Reply
 in_reach_reply b x y reach room = let reply = positions_reply b x y reach room in given reply.number (pos reply.count ∷ [])
 
--- the sheet whose record the bytes are: refused as the first record of a file is; then 3 where bytes follow it. A place and the end are not due first, so that these two are never found (Laws: NoPlaceFirst, NoEndFirst).
-unfoldable pub first_sheet : Found → (whole : Bool) → SheetAnswer
-first_sheet (found.Sheet s) whole = outcome ((whole else-refuse TrailingBytes) ∷ []) (sheet.Sheet s) sheet.Refused
-first_sheet found.Place whole = sheet.Refused Kind
-first_sheet (found.End count) whole = sheet.Refused Kind
-first_sheet (found.Refused why offset) whole = sheet.Refused why
+-- what is checked, as the sheet that it is
+abbrev pub as_sheet : Result CheckedSheet Refusal → Result Sheet Refusal
+as_sheet (Ok checked) = Ok checked.sheet
+as_sheet (Err why) = Err why
 
-unfoldable pub sheet_in : List ℕ → SheetAnswer
-sheet_in b =
-    let first = step_of b (start_of 0) in
-    first_sheet first.«found» (eqb first.«next».«at» (length b))
+-- the sheet whose record the bytes are: refused as the first record of a file is; then 3 where bytes follow it. A place and the end are not due first, so that these two are never found (Laws: NoPlaceFirst, NoEndFirst).
+unfoldable pub first_sheet : Found → (whole : Bool) → Result Sheet Refusal
+first_sheet (found.Sheet s) whole = outcome ((whole else-refuse TrailingBytes) ∷ []) (Ok s) Err
+first_sheet (found.Place p) whole = Err Kind
+first_sheet (found.End count) whole = Err Kind
+
+abbrev pub first_answer : StepAnswer → (size : ℕ) → Result Sheet Refusal
+first_answer (Ok advance) size = first_sheet advance.«found» (eqb advance.«next».«at» size)
+first_answer (Err why) size = Err why.«refusal»
+
+unfoldable pub sheet_in : List ℕ → Result Sheet Refusal
+sheet_in b = first_answer (step_of b (start_of 0)) (length b)
 
 -- what is answered on that sheet; its refusal comes first
-abbrev pub answered : SheetAnswer → (Sheet → Reply) → Reply
-answered (sheet.Sheet s) answer = answer s
-answered (sheet.Refused why) answer = refused 2 why
+abbrev pub answered : Result Sheet Refusal → (Sheet → Reply) → Reply
+answered (Ok s) answer = answer s
+answered (Err why) answer = refused 2 why
 
 abbrev pub forward_reply : (sheet : List ℕ) (latitude longitude : ℤ) → Reply
 forward_reply b latitude longitude = answered (sheet_in b) (λ s. forward.forward_reply s latitude longitude)
@@ -97,14 +103,14 @@ unfoldable pub each_rules : (numbers size : ℕ) → List Rule
 each_rules numbers size = (eqb (numbers % 2) 0 else-refuse OutOfRange) ∷ (leb (numbers / 2) (size / 3) else-refuse NoRoom) ∷ []
 
 -- the sheet on which the pairs are answered, or why none is
-abbrev pub sheet_for_each : SheetAnswer → (numbers size : ℕ) → SheetAnswer
-sheet_for_each (sheet.Sheet s) numbers size = outcome (each_rules numbers size) (sheet.Sheet s) sheet.Refused
-sheet_for_each (sheet.Refused why) numbers size = sheet.Refused why
+abbrev pub sheet_for_each : Result Sheet Refusal → (numbers size : ℕ) → Result Sheet Refusal
+sheet_for_each (Ok s) numbers size = outcome (each_rules numbers size) (Ok s) Err
+sheet_for_each (Err why) numbers size = Err why
 
 -- the number, and what the slice of answers holds then: later ones are unchanged, and on refusal all
-abbrev pub each_on : (answer : Sheet → ℤ → ℤ → Reply) → SheetAnswer → (pairs before : List ℤ) → Reply
-each_on answer (sheet.Sheet s) ps before = accepted (each_answers (answer s) ps (length ps / 2) ++ drop (3 * (length ps / 2)) before)
-each_on answer (sheet.Refused why) ps before = given (number_of why) before
+abbrev pub each_on : (answer : Sheet → ℤ → ℤ → Reply) → Result Sheet Refusal → (pairs before : List ℤ) → Reply
+each_on answer (Ok s) ps before = accepted (each_answers (answer s) ps (length ps / 2) ++ drop (3 * (length ps / 2)) before)
+each_on answer (Err why) ps before = given (number_of why) before
 
 abbrev pub each_reply : (answer : Sheet → ℤ → ℤ → Reply) → (sheet : List ℕ) (pairs before : List ℤ) → Reply
 each_reply answer b ps before = each_on answer (sheet_for_each (sheet_in b) (length ps) (length before)) ps before

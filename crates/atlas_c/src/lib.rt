@@ -5,9 +5,8 @@
 
 #![tactic(auto)]
 
-ghost use Rattle.std.specs.Prelude.{◌≡◌, true, [], ◌∷◌, ◌++◌, map, ◌*◌, ◌≤◌, pos, length, drop};
-ghost use Rattle.refusal.specs.Numbers.{number_of};
-ghost use Rattle.sheet.specs.Sheets.{passes_checks};
+ghost use Rattle.std.specs.Prelude.{◌≡◌, true, [], ◌∷◌, ◌++◌, map, ◌*◌, ◌≤◌, pos, length, drop, ◌/◌, ℤ};
+ghost use Rattle.refusal.specs.Numbers.{number_of, Reply};
 ghost use Rattle.records.specs.Records.{IsRecord};
 ghost use Rattle.records.specs.declared.Record.TheVariants as records;
 ghost use Rattle.conic.specs.Conic as forward;
@@ -17,26 +16,23 @@ ghost use Rattle.conic.specs.MapToGlobe.{globe_reply_of};
 ghost use Rattle.nearest.specs.Taps.{usual_reach};
 ghost use Rattle.atlas_file.specs.Reading.{file_reply_of};
 ghost use Rattle.lookup_all.specs.Positions.{positions_after};
-ghost use Rattle.atlas_c.specs.Given.{given, or_untouched, file_reply, count_reply, sheet_reply, sheet_after, place_reply, nearest_reply, in_reach_reply, sheet_in, forward_reply, inverse_reply, each_answer_of, each_answers, sheet_for_each, forward_each_reply, inverse_each_reply};
+ghost use Rattle.atlas_c.specs.Given.{as_sheet, given, or_untouched, file_reply, count_reply, sheet_reply, sheet_after, place_reply, nearest_reply, in_reach_reply, sheet_in, forward_reply, inverse_reply, each_answer_of, each_answers, sheet_for_each, forward_each_reply, inverse_each_reply};
 
-use atlas_file::{FileAnswer, Found, MOST_PLACES};
-use conic::{GlobeAnswer, MapAnswer};
-use lookup::Lookup;
-use lookup_all::PositionsAnswer;
+use atlas_file::{Atlas, FileRefusal, Found, MOST_PLACES};
+use conic::{InverseProjection, MapPoint, Position};
 use nearest::USUAL_REACH;
-use records::{Layout, Record};
+use records::Record;
 use refusal::Refusal;
-use sheet::{Sheet, Verdict};
+use sheet::CheckedSheet;
 
 // Whether a file is good.
 #[unsafe(no_mangle)]
 pub extern "C" fn atlas_check(file: &[u8]) -> u32
     ensures { result ≡ (file_reply file.now).number }
 {
-    let answer = read_file(file);
-    match answer {
-        FileAnswer::Atlas { count: _, sheet: _ } => 0,
-        FileAnswer::Refused { refusal, offset: _ } => number(refusal),
+    match read_file(file) {
+        Ok(_) => 0,
+        Err(why) => number(why.refusal),
     }
 }
 
@@ -45,10 +41,9 @@ pub extern "C" fn atlas_check(file: &[u8]) -> u32
 pub extern "C" fn atlas_refused_at(file: &[u8]) -> usize
     ensures { result ≡ (file_reply file.now).offset }
 {
-    let answer = read_file(file);
-    match answer {
-        FileAnswer::Atlas { count: _, sheet: _ } => 0,
-        FileAnswer::Refused { refusal: _, offset } => offset,
+    match read_file(file) {
+        Ok(_) => 0,
+        Err(why) => why.offset,
     }
 }
 
@@ -57,16 +52,12 @@ pub extern "C" fn atlas_refused_at(file: &[u8]) -> usize
 pub extern "C" fn atlas_count(file: &[u8], count: &mut usize) -> u32
     ensures { given result (pos count.new ∷ []) ≡ or_untouched (count_reply file.now) (pos count.old ∷ []) }
 {
-    let answer = read_file(file);
-    match answer {
-        FileAnswer::Atlas {
-            count: places,
-            sheet: _,
-        } => {
-            *count = places;
+    match read_file(file) {
+        Ok(atlas) => {
+            *count = atlas.count;
             0
         }
-        FileAnswer::Refused { refusal, offset: _ } => number(refusal),
+        Err(why) => number(why.refusal),
     }
 }
 
@@ -76,18 +67,17 @@ pub extern "C" fn atlas_sheet(file: &[u8], sheet: &mut [u8], sheet_length: &mut 
     ensures sheet_length_after { given result (pos sheet_length.new ∷ []) ≡ or_untouched (sheet_reply file.now (length sheet.old)) (pos sheet_length.old ∷ []) }
     ensures sheet_after { sheet.new ≡ sheet_after file.now sheet.old }
 {
-    let answer = read_file(file);
-    match answer {
-        FileAnswer::Atlas { count: _, sheet: s } => {
-            let length = records::sheet_record_length(s);
+    match read_file(file) {
+        Ok(atlas) => {
+            let length = records::sheet_record_length(atlas.sheet);
             if sheet.len() < length {
                 return number(Refusal::NoRoom);
             }
-            records::write_sheet_unchecked(&mut sheet[..length], s);
+            records::write_sheet_unchecked(&mut sheet[..length], atlas.sheet);
             *sheet_length = length;
             0
         }
-        FileAnswer::Refused { refusal, offset: _ } => number(refusal),
+        Err(why) => number(why.refusal),
     }
 }
 
@@ -107,10 +97,9 @@ pub extern "C" fn atlas_place(
         ≡ or_untouched (place_reply file.now index) (pos id.old ∷ latitude.old ∷ longitude.old ∷ x.old ∷ y.old ∷ map pos name.old) }
 {
     let answer = lookup::place_at(file, index);
-    let found = answer.found;
-    match found {
-        Lookup::Place { position: _ } => {
-            let place = answer.place;
+    match answer {
+        Ok(found) => {
+            let place = found.place;
             *id = place.id;
             let place_latitude = place.latitude;
             *latitude = place_latitude;
@@ -124,7 +113,7 @@ pub extern "C" fn atlas_place(
             *name = bytes;
             0
         }
-        Lookup::Refused { refusal, offset: _ } => number(refusal),
+        Err(why) => number(why.refusal),
     }
 }
 
@@ -134,13 +123,12 @@ pub extern "C" fn atlas_nearest(file: &[u8], x: i64, y: i64, reach: i64, index: 
     ensures { given result (pos index.new ∷ []) ≡ or_untouched (nearest_reply file.now x y reach) (pos index.old ∷ []) }
 {
     let answer = lookup::nearest_place(file, x, y, reach);
-    let found = answer.found;
-    match found {
-        Lookup::Place { position } => {
-            *index = position;
+    match answer {
+        Ok(found) => {
+            *index = found.position;
             0
         }
-        Lookup::Refused { refusal, offset: _ } => number(refusal),
+        Err(why) => number(why.refusal),
     }
 }
 
@@ -159,11 +147,11 @@ pub extern "C" fn atlas_places_in_reach(
 {
     let answer = lookup_all::positions_in_reach(file, x, y, reach, indexes);
     match answer {
-        PositionsAnswer::Listed { count: listed } => {
+        Ok(listed) => {
             *count = listed;
             0
         }
-        PositionsAnswer::Refused { refusal, offset: _ } => number(refusal),
+        Err(why) => number(why.refusal),
     }
 }
 
@@ -186,14 +174,13 @@ pub extern "C" fn atlas_forward(
 ) -> u32
     ensures { given result (x.new ∷ y.new ∷ []) ≡ or_untouched (forward_reply sheet.now latitude longitude) (x.old ∷ y.old ∷ []) }
 {
-    let answer = forward_of(sheet, latitude, longitude);
-    match answer {
-        MapAnswer::Point { x: map_x, y: map_y } => {
-            *x = map_x;
-            *y = map_y;
+    match forward_of(sheet, latitude, longitude) {
+        Ok(point) => {
+            *x = point.x;
+            *y = point.y;
             0
         }
-        MapAnswer::Refused(r) => number(r),
+        Err(r) => number(r),
     }
 }
 
@@ -202,13 +189,12 @@ pub extern "C" fn atlas_forward(
 pub extern "C" fn atlas_forward_each(sheet: &[u8], positions: &[i64], answers: &mut [i64]) -> u32
     ensures { given result answers.new ≡ forward_each_reply sheet.now positions.now answers.old }
 {
-    let answer = sheet_for_each(sheet, positions.len(), answers.len());
-    match answer {
-        SheetAnswer::Sheet(s) => {
-            forward_each(s, positions, positions.len() / 2, answers);
+    match sheet_for_each(sheet, positions.len(), answers.len()) {
+        Ok(checked) => {
+            answer_each(&ForwardProjection { checked }, positions, answers);
             0
         }
-        SheetAnswer::Refused(r) => number(r),
+        Err(r) => number(r),
     }
 }
 
@@ -223,17 +209,13 @@ pub extern "C" fn atlas_inverse(
 ) -> u32
     ensures { given result (latitude.new ∷ longitude.new ∷ []) ≡ or_untouched (inverse_reply sheet.now x y) (latitude.old ∷ longitude.old ∷ []) }
 {
-    let answer = inverse_of(sheet, x, y);
-    match answer {
-        GlobeAnswer::Position {
-            latitude: phi,
-            longitude: lambda,
-        } => {
-            *latitude = phi;
-            *longitude = lambda;
+    match inverse_of(sheet, x, y) {
+        Ok(position) => {
+            *latitude = position.latitude;
+            *longitude = position.longitude;
             0
         }
-        GlobeAnswer::Refused(r) => number(r),
+        Err(r) => number(r),
     }
 }
 
@@ -242,47 +224,39 @@ pub extern "C" fn atlas_inverse(
 pub extern "C" fn atlas_inverse_each(sheet: &[u8], points: &[i64], answers: &mut [i64]) -> u32
     ensures { given result answers.new ≡ inverse_each_reply sheet.now points.now answers.old }
 {
-    let answer = sheet_for_each(sheet, points.len(), answers.len());
-    match answer {
-        SheetAnswer::Sheet(s) => {
-            inverse_each(s, points, points.len() / 2, answers);
+    match sheet_for_each(sheet, points.len(), answers.len()) {
+        Ok(checked) => {
+            answer_each(&InverseProjection::new(checked), points, answers);
             0
         }
-        SheetAnswer::Refused(r) => number(r),
+        Err(r) => number(r),
     }
 }
 
 // Reads a file through, with room for as many places as a file can have.
-fn read_file(file: &[u8]) -> FileAnswer
+fn read_file(file: &[u8]) -> Result<Atlas, FileRefusal>
     ensures { file_reply_of result ≡ file_reply file.now }
 {
     atlas_file::read_through(file, MOST_PLACES)
 }
 
-// A refusal's number.
+// A refusal's number, as the C interface gives it.
 fn number(r: Refusal) -> u32
     ensures { result ≡ number_of r }
 {
     refusal::number(r) as u32
 }
 
-// The sheet whose record the bytes are, or why they are none.
-#[derive(Clone, Copy)]
-enum SheetAnswer {
-    Sheet(Sheet),
-    Refused(Refusal),
-}
-
 // Bytes as a sheet: refused as the first record of a file is, then 3 if bytes follow it. One whole record of a good sheet, which is what an app has,
 // is taken without a reader's state.
-fn sheet_in(bytes: &[u8]) -> SheetAnswer
-    ensures { result ≡ sheet_in bytes.now }
+fn sheet_in(bytes: &[u8]) -> Result<CheckedSheet, Refusal>
+    ensures { as_sheet result ≡ sheet_in bytes.now }
 {
     if is_sheet_record(bytes) {
+        // Checked where it lies: the copy that CheckedSheet::new gives would be read in pieces that were not written as one, which takes time.
         let sheet = records::decode_sheet_unchecked(bytes);
-        let verdict = sheet::check(sheet);
-        if let Verdict::Good = verdict {
-            return SheetAnswer::Sheet(sheet);
+        if let Ok(()) = sheet::check(sheet) {
+            return Ok(CheckedSheet { sheet });
         }
     }
     first_sheet(bytes)
@@ -292,153 +266,108 @@ fn sheet_in(bytes: &[u8]) -> SheetAnswer
 fn is_sheet_record(bytes: &[u8]) -> bool
     ensures { result ≡ true → IsRecord records.Sheet bytes.now }
 {
-    if bytes.len() == 0 {
+    if bytes.is_empty() {
         return false;
     }
-    let layout = records::layout_of(bytes[0]);
-    match layout {
-        Layout::Known { record, body } => match record {
-            Record::Sheet => bytes.len() - 1 == body,
-            Record::Place => false,
-            Record::End => false,
-        },
-        Layout::Refused(_) => false,
+    match Record::try_from(bytes[0]) {
+        Ok(Record::Sheet) => bytes.len() - 1 == Record::Sheet.body(),
+        _ => false,
     }
 }
 
 // The same by a reader's first step. A place and the end are not due first.
-fn first_sheet(bytes: &[u8]) -> SheetAnswer
-    ensures { result ≡ sheet_in bytes.now }
+fn first_sheet(bytes: &[u8]) -> Result<CheckedSheet, Refusal>
+    ensures { as_sheet result ≡ sheet_in bytes.now }
 {
-    let answer = atlas_file::step(bytes, atlas_file::start(0));
-    let found = answer.found;
-    match found {
+    let advance = match atlas_file::step(bytes, atlas_file::start(0)) {
+        Ok(advance) => advance,
+        Err(why) => return Err(why.refusal),
+    };
+    match advance.found {
         Found::Sheet(sheet) => {
-            if answer.next.at == bytes.len() {
-                SheetAnswer::Sheet(sheet)
-            } else {
-                SheetAnswer::Refused(Refusal::TrailingBytes)
+            if advance.next.at != bytes.len() {
+                return Err(Refusal::TrailingBytes);
             }
+            Ok(CheckedSheet { sheet })
         }
-        Found::Place => SheetAnswer::Refused(Refusal::Kind),
-        Found::End { count: _ } => SheetAnswer::Refused(Refusal::Kind),
-        Found::Refused { refusal, offset: _ } => SheetAnswer::Refused(refusal),
+        Found::Place(_) | Found::End { count: _ } => Err(Refusal::Kind),
     }
 }
 
 // The sheet on which pairs of numbers are answered, by three numbers each: refused as the sheet is, then 12 if a first number has no second, then
 // 10 if there is no room for the answers.
-fn sheet_for_each(bytes: &[u8], numbers: usize, room: usize) -> SheetAnswer
-    ensures { result ≡ sheet_for_each (sheet_in bytes.now) numbers room }
+fn sheet_for_each(bytes: &[u8], numbers: usize, room: usize) -> Result<CheckedSheet, Refusal>
+    ensures { as_sheet result ≡ sheet_for_each (sheet_in bytes.now) numbers room }
 {
-    let answer = sheet_in(bytes);
-    match answer {
-        SheetAnswer::Sheet(sheet) => {
-            if numbers % 2 != 0 {
-                return SheetAnswer::Refused(Refusal::OutOfRange);
-            }
-            if room / 3 < numbers / 2 {
-                return SheetAnswer::Refused(Refusal::NoRoom);
-            }
-            SheetAnswer::Sheet(sheet)
-        }
-        SheetAnswer::Refused(r) => SheetAnswer::Refused(r),
+    let checked = sheet_in(bytes)?;
+    if numbers % 2 != 0 {
+        return Err(Refusal::OutOfRange);
     }
+    if room / 3 < numbers / 2 {
+        return Err(Refusal::NoRoom);
+    }
+    Ok(checked)
 }
 
-// Forward on the sheet whose record the bytes are.
-fn forward_of(bytes: &[u8], latitude: i64, longitude: i64) -> MapAnswer
+// Forward on the sheet whose record the bytes are. (No plainer as one function with inverse_of: they answer two types.)
+fn forward_of(bytes: &[u8], latitude: i64, longitude: i64) -> Result<MapPoint, Refusal>
     ensures { map_reply_of result ≡ forward_reply bytes.now latitude longitude }
 {
-    let answer = sheet_in(bytes);
-    match answer {
-        SheetAnswer::Sheet(sheet) => conic::forward_unchecked(sheet, latitude, longitude),
-        SheetAnswer::Refused(r) => MapAnswer::Refused(r),
-    }
+    conic::forward_on(sheet_in(bytes)?, latitude, longitude)
 }
 
 // Inverse on the sheet whose record the bytes are.
-fn inverse_of(bytes: &[u8], x: i64, y: i64) -> GlobeAnswer
+fn inverse_of(bytes: &[u8], x: i64, y: i64) -> Result<Position, Refusal>
     ensures { globe_reply_of result ≡ inverse_reply bytes.now x y }
 {
-    let answer = sheet_in(bytes);
-    match answer {
-        SheetAnswer::Sheet(sheet) => conic::inverse_unchecked(sheet, x, y),
-        SheetAnswer::Refused(r) => GlobeAnswer::Refused(r),
+    conic::inverse_on(sheet_in(bytes)?, x, y)
+}
+
+// One of the two ways on one sheet: three numbers are answered to a pair of numbers, the refusal's and the two values.
+trait Projection {
+    ghost reply: { Self → ℤ → ℤ → Reply };
+
+    fn answer(&self, first: i64, second: i64) -> [i64; 3]
+        ensures { result ≡ each_answer_of (reply self.now first second) };
+}
+
+// From globe to map.
+#[derive(Clone, Copy)]
+struct ForwardProjection {
+    checked: CheckedSheet,
+}
+
+impl Projection for ForwardProjection {
+    ghost reply = { λ p. forward.forward_reply p.checked.sheet };
+
+    fn answer(&self, latitude: i64, longitude: i64) -> [i64; 3] {
+        match conic::forward_on(self.checked, latitude, longitude) {
+            Ok(point) => [0, point.x, point.y],
+            Err(r) => [number(r) as i64, 0, 0],
+        }
     }
 }
 
-// Sets the answers to the first `count` positions, each into its own part of the slice.
-fn forward_each(sheet: Sheet, positions: &[i64], count: usize, answers: &mut [i64])
-    requires sheet_value { passes_checks sheet ≡ true }
-    requires count_in_bounds { 2 * count ≤ length positions.now }
-    requires count_in_bounds_2 { 3 * count ≤ length answers.old }
-    ensures { answers.new ≡ each_answers (forward.forward_reply sheet) positions.now count ++ drop (3 * count) answers.old }
+// From map to globe.
+impl Projection for InverseProjection {
+    ghost reply = { λ p. inverse.inverse_reply p.checked.sheet };
+
+    fn answer(&self, x: i64, y: i64) -> [i64; 3] {
+        match self.position(x, y) {
+            Ok(position) => [0, position.latitude, position.longitude],
+            Err(r) => [number(r) as i64, 0, 0],
+        }
+    }
+}
+
+// Sets the answers to pairs of numbers, each into its own three places of the slice.
+fn answer_each<P: Projection>(projection: &P, pairs: &[i64], answers: &mut [i64])
+    requires { length pairs.now / 2 ≤ length answers.old / 3 }
+    ensures { answers.new ≡ each_answers (P.reply projection.now) pairs.now (length pairs.now / 2) ++ drop (3 * (length pairs.now / 2)) answers.old }
 {
-    let mut k = 0;
-    while k < count {
-        let answer = conic::forward_unchecked(sheet, positions[2 * k], positions[2 * k + 1]);
+    for k in 0..pairs.len() / 2 {
+        let answer = projection.answer(pairs[2 * k], pairs[2 * k + 1]);
         let at = 3 * k;
-        let end = at + 3;
-        set_map_answer(&mut answers[at..end], answer);
-        k += 1;
+        answers[at..at + 3].copy_from_slice(&answer);
     }
-}
-
-// The same for points.
-fn inverse_each(sheet: Sheet, points: &[i64], count: usize, answers: &mut [i64])
-    requires sheet_value { passes_checks sheet ≡ true }
-    requires count_in_bounds { 2 * count ≤ length points.now }
-    requires count_in_bounds_2 { 3 * count ≤ length answers.old }
-    ensures { answers.new ≡ each_answers (inverse.inverse_reply sheet) points.now count ++ drop (3 * count) answers.old }
-{
-    let values = conic::inverse_values_unchecked(sheet);
-    let mut k = 0;
-    while k < count {
-        let answer = conic::inverse_by_values_unchecked(
-            sheet,
-            values,
-            points[2 * k],
-            points[2 * k + 1],
-        );
-        let at = 3 * k;
-        let end = at + 3;
-        set_globe_answer(&mut answers[at..end], answer);
-        k += 1;
-    }
-}
-
-// The answer to a position: the refusal's number, x and y.
-fn set_map_answer(part: &mut [i64], answer: MapAnswer)
-    requires { length part.old ≡ 3 }
-    ensures { part.new ≡ each_answer_of (map_reply_of answer) }
-{
-    match answer {
-        MapAnswer::Point { x, y } => set_three(part, 0, x, y),
-        MapAnswer::Refused(r) => set_three(part, number(r), 0, 0),
-    }
-}
-
-// The answer to a point: the refusal's number, latitude and longitude.
-fn set_globe_answer(part: &mut [i64], answer: GlobeAnswer)
-    requires { length part.old ≡ 3 }
-    ensures { part.new ≡ each_answer_of (globe_reply_of answer) }
-{
-    match answer {
-        GlobeAnswer::Position {
-            latitude,
-            longitude,
-        } => set_three(part, 0, latitude, longitude),
-        GlobeAnswer::Refused(r) => set_three(part, number(r), 0, 0),
-    }
-}
-
-// Sets the three numbers of one answer.
-fn set_three(part: &mut [i64], number: u32, first: i64, second: i64)
-    requires { length part.old ≡ 3 }
-    ensures { part.new ≡ pos number ∷ first ∷ second ∷ [] }
-{
-    part[0] = number as i64;
-    part[1] = first;
-    part[2] = second;
 }

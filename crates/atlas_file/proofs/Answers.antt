@@ -1,43 +1,54 @@
 -- Two answers of reading, or of a step, never share a number and values. Assumes nothing.
-use mathlib.Core.Path.{◌≡◌, refl, sym, ap}
+use mathlib.Core.Path.{◌≡◌, refl, sym, ap, ◌∙◌}
 use mathlib.Core.Bool.{cond}
 use lib.Dec.{eqb}
+use Rattle.std.specs.Prelude.{Ok, Err}
 use Rattle.refusal.proofs.Distinct.{refusal_of, refusal-of_number, distinct_numbers, no_number_zero}
-use Rattle.place.specs.declared.Place.{Place}
 use Rattle.atlas_file.specs.declared.State.{State}
 use Rattle.atlas_file.specs.declared.Found.{Found}
 use Rattle.atlas_file.specs.declared.Found.TheVariants as found
-use Rattle.atlas_file.specs.declared.reading.FileAnswer.TheVariants.{Atlas, Refused}
 use Rattle.atlas_file.specs.Reading.{FileReply}
-use Rattle.atlas_file.specs.Steps.{StepReply, found_reply}
+use Rattle.atlas_file.specs.Steps.{StepAnswer, StepReply, found_reply, next_of, step_reply_of}
 use Rattle.atlas_file.specs.Laws.{DistinctFileReplies, DistinctStepReplies}
 
 number-of : {p q : FileReply} → p ≡ q → p.number ≡ q.number
 number-of = ap (λ (x : FileReply). x.number)
 
 pub distinct_file_replies : DistinctFileReplies
-distinct_file_replies (Atlas c s) (Atlas d t) e = λ i. Atlas (e i).count (e i).sheet
-distinct_file_replies (Atlas c s) (Refused why offset) e = absurd (no_number_zero why (sym (number-of e)))
-distinct_file_replies (Refused why offset) (Atlas c s) e = absurd (no_number_zero why (number-of e))
-distinct_file_replies (Refused why offset) (Refused reason place) e = λ i. Refused (distinct_numbers why reason (number-of e) i) (e i).offset
+distinct_file_replies (Ok a) (Ok b) e = λ i. Ok (record { «count» = (e i).count; «sheet» = (e i).sheet })
+distinct_file_replies (Ok a) (Err why) e = absurd (no_number_zero why.«refusal» (sym (number-of e)))
+distinct_file_replies (Err why) (Ok b) e = absurd (no_number_zero why.«refusal» (number-of e))
+distinct_file_replies (Err why) (Err reason) e =
+    λ i. Err (record { «refusal» = distinct_numbers why.«refusal» reason.«refusal» (number-of e) i; «offset» = (e i).offset })
 
--- ---- of a step: what was found is read off its reply, and place and state are in it as they are
+-- ---- of a step: what was found is read off its reply, and the state after it is in it as it is
 
-found_of : StepReply → Found
-found_of r = cond (eqb r.which 1) (found.Sheet r.sheet) (cond (eqb r.which 2) found.Place (cond (eqb r.which 3) (found.End r.count) (found.Refused (refusal_of r.number) r.offset)))
+step_in : StepReply → StepAnswer
+step_in r =
+    let advanced : Found → StepAnswer = λ f. Ok (record { «found» = f; «next» = r.next }) in
+    cond (eqb r.which 1) (advanced (found.Sheet r.sheet))
+    (cond (eqb r.which 2) (advanced (found.Place r.place))
+    (cond (eqb r.which 3) (advanced (found.End r.count)) (Err (record { «refusal» = refusal_of r.number; «offset» = r.offset }))))
 
-again : (f : Found) (p : Place) (s : State) → (found_of (found_reply f p s) ≡ f) × ((found_reply f p s).place ≡ p) × ((found_reply f p s).next ≡ s)
-unfolding found_of
-again (found.Sheet h) p s = (refl, refl, refl)
-again found.Place p s = (refl, refl, refl)
-again (found.End count) p s = (refl, refl, refl)
-again (found.Refused why offset) p s = (ap (λ w. found.Refused w offset) (refusal-of_number why), refl, refl)
+again : (s : State) (a : StepAnswer) → step_in (step_reply_of s a) ≡ a
+unfolding step_in
+again s (Ok advance) = by_found advance.«found»
+  where
+    by_found : (f : Found) → step_in (found_reply f advance.«next») ≡ Ok (record { «found» = f; «next» = advance.«next» })
+    by_found (found.Sheet h) = refl
+    by_found (found.Place p) = refl
+    by_found (found.End count) = refl
+again s (Err why) = ap (λ w. Err (record { «refusal» = w; «offset» = why.«offset» })) (refusal-of_number why.«refusal»)
+
+next-in : (s : State) (a : StepAnswer) → (step_reply_of s a).next ≡ next_of s a
+next-in s (Ok advance) = by_found advance.«found»
+  where
+    by_found : (f : Found) → (found_reply f advance.«next»).next ≡ advance.«next»
+    by_found (found.Sheet h) = refl
+    by_found (found.Place p) = refl
+    by_found (found.End count) = refl
+next-in s (Err why) = refl
 
 pub distinct_step_replies : DistinctStepReplies
-distinct_step_replies a b e =
-    let x = again a.«found» a.«place» a.«next» in
-    let y = again b.«found» b.«place» b.«next» in
-    let f : a.«found» ≡ b.«found» = cc in
-    let p : a.«place» ≡ b.«place» = cc in
-    let s : a.«next» ≡ b.«next» = cc in
-    λ i. record { «found» = f i; «place» = p i; «next» = s i }
+distinct_step_replies s t a b e =
+    (sym (again s a) ∙ ap step_in e ∙ again t b, sym (next-in s a) ∙ ap (λ (r : StepReply). r.next) e ∙ next-in t b)

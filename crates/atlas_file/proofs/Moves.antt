@@ -12,14 +12,13 @@ use Rattle.place.specs.declared.Place.{Place}
 use Rattle.atlas_file.specs.declared.State.{State}
 use Rattle.atlas_file.specs.declared.Found.{Found}
 use Rattle.atlas_file.specs.declared.Found.TheVariants as found
-use Rattle.atlas_file.specs.declared.StepAnswer.{StepAnswer}
+use Rattle.std.specs.Prelude.{Ok, Err}
 use Rattle.records.specs.Records.{IsRecord, sheet_of, place_of, end_of}
-use Rattle.atlas_file.specs.Steps.{most_places, past_sheet, past_place, refused_step, step_of}
+use Rattle.atlas_file.specs.Steps.{StepAnswer, most_places, past_sheet, past_place, next_of, step_of}
 use Rattle.refusal.specs.Rules.{all_hold}
-use Rattle.sheet.specs.declared.Sheet.{Sheet}
 use Rattle.sheet.specs.Sheets.{passes_checks}
 use Rattle.place.specs.Places.{place_rules}
-use Rattle.atlas_file.specs.Reading.{goes_on, read_from}
+use Rattle.atlas_file.specs.Reading.{goes_on, steps_on, read_from}
 use Rattle.atlas_file.specs.Laws.{OneRecord, SheetMoves, PlaceMoves, EndIsLast, Stays, SameAgain, BoundNeverReached}
 use Rattle.atlas_file.proofs.Views.{Stepped, refused, sheet, place, end, view}
 use Rattle.atlas_file.proofs.Turns.{after_step, read_turn}
@@ -43,60 +42,54 @@ one_record which b s next r rest i e p = record {
   past = p;
 }
 
--- what was found is never two things: `cc` has 0 ≡ 1 of it
-never : {P : Type 0} → ◌≡◌ {A = ℕ} 0 1 → P
-never e = absurd (omega (arith, e))
+-- what each answer says of the record from which it comes
+abbrev Moved : List ℕ → State → Found → State → Type 0
+Moved b s (found.Sheet h) next =
+    (r : List ℕ) × OneRecord records.Sheet b s next r × (h ≡ sheet_of r) × (next ≡ past_sheet s r) × (s.sheet_read ≡ false) × (passes_checks h ≡ true)
+Moved b s (found.Place p) next =
+    (r : List ℕ)
+    × OneRecord records.Place b s next r
+    × (p ≡ place_of r)
+    × (next ≡ past_place s r)
+    × (s.sheet_read ≡ true)
+    × (s.«count» < most_places)
+    × (s.«count» < s.«room»)
+    × (all_hold (place_rules s.«sheet» s.«count» s.last_id p) ≡ true)
+Moved b s (found.End count) next =
+    (r : List ℕ) × IsRecord records.End r × (drop s.«at» b ≡ r) × (s.sheet_read ≡ true) × (count ≡ end_of r) × (count ≡ s.«count»)
+
+abbrev MovedBy : List ℕ → State → StepAnswer → Type 0
+MovedBy b s (Ok advance) = Moved b s advance.«found» advance.«next»
+MovedBy b s (Err why) = Unit {0}
 
 module _ {b : List ℕ} {s : State} where
-  sheet-moved : {a : StepAnswer} → Stepped b s a → (h : Sheet) → a.«found» ≡ found.Sheet h →
-      (r : List ℕ) × OneRecord records.Sheet b s a.«next» r × (h ≡ sheet_of r) × (a.«next» ≡ past_sheet s r) × (s.sheet_read ≡ false) × (passes_checks h ≡ true)
-  unfolding refused_step
-  sheet-moved (refused why offset) h e = never (cc)
-  sheet-moved (sheet r rest i at unread ok) h e =
-      let same : sheet_of r ≡ h = cc in
-      (r, one_record records.Sheet b s _ r rest i at refl, sym same, refl, unread, subst (λ (h : Sheet). passes_checks h ≡ true) same ok)
-  sheet-moved (place r rest i at read few room ok) h e = never (cc)
-  sheet-moved (end r i at read same) h e = never (cc)
+  moved : {a : StepAnswer} → Stepped b s a → MovedBy b s a
+  moved (refused why offset) = tt
+  moved (sheet r rest i at unread ok) = (r, one_record records.Sheet b s _ r rest i at refl, refl, refl, unread, ok)
+  moved (place r rest i at read few room ok) = (r, one_record records.Place b s _ r rest i at refl, refl, refl, read, few, room, ok)
+  moved (end r i at read same) = (r, i, at, read, refl, same)
 
-  place-moved : {a : StepAnswer} → Stepped b s a → a.«found» ≡ found.Place →
-      (r : List ℕ) × OneRecord records.Place b s a.«next» r × (a.«place» ≡ place_of r) × (a.«next» ≡ past_place s r) × (s.sheet_read ≡ true) × (s.«count» < most_places) × (s.«count» < s.«room») × (all_hold (place_rules s.«sheet» s.«count» s.last_id a.«place») ≡ true)
-  unfolding refused_step
-  place-moved (refused why offset) e = never (cc)
-  place-moved (sheet r rest i at unread ok) e = never (cc)
-  place-moved (place r rest i at read few room ok) e = (r, one_record records.Place b s _ r rest i at refl, refl, refl, read, few, room, ok)
-  place-moved (end r i at read same) e = never (cc)
-
-  last_end : {a : StepAnswer} → Stepped b s a → (count : ℕ) → a.«found» ≡ found.End count →
-      (r : List ℕ) × IsRecord records.End r × (drop s.«at» b ≡ r) × (s.sheet_read ≡ true) × (count ≡ end_of r) × (count ≡ s.«count»)
-  unfolding refused_step
-  last_end (refused why offset) count e = never (cc)
-  last_end (sheet r rest i at unread ok) count e = never (cc)
-  last_end (place r rest i at read few room ok) count e = never (cc)
-  last_end (end r i at read same) count e = let c-is : count ≡ end_of r = cc in (r, i, at, read, c-is, c-is ∙ same)
-
-  stayed : {r : StepAnswer} → Stepped b s r → goes_on r.«found» ≡ false → r.«next» ≡ s
-  unfolding refused_step
+  stayed : {a : StepAnswer} → Stepped b s a → steps_on a ≡ false → next_of s a ≡ s
   stayed (refused why offset) e = refl
   stayed (sheet l rest i at unread ok) e = absurd (true≢false e)
   stayed (place l rest i at read few room ok) e = absurd (true≢false e)
   stayed (end l i at read same) e = refl
 
   -- a step after which the file goes on leads further, within the file
-  pub leads : {r : StepAnswer} → Stepped b s r → goes_on r.«found» ≡ true → (s.«at» < r.«next».«at») × (r.«next».«at» ≤ length b)
-  unfolding refused_step
+  pub leads : {a : StepAnswer} → Stepped b s a → steps_on a ≡ true → (s.«at» < (next_of s a).«at») × ((next_of s a).«at» ≤ length b)
   leads (refused why offset) e = absurd (true≢false (sym e))
   leads (sheet l rest i at unread ok) e = further records.Sheet b l rest s.«at» i at
   leads (place l rest i at read few room ok) e = further records.Place b l rest s.«at» i at
   leads (end l i at read same) e = absurd (true≢false (sym e))
 
 pub sheet-moves : SheetMoves
-sheet-moves b s = sheet-moved (view b s)
+sheet-moves b s next h e = subst (MovedBy b s) e (moved (view b s))
 
 pub place-moves : PlaceMoves
-place-moves b s = place-moved (view b s)
+place-moves b s next p e = subst (MovedBy b s) e (moved (view b s))
 
 pub end_is_last : EndIsLast
-end_is_last b s = last_end (view b s)
+end_is_last b s next count e = subst (MovedBy b s) e (moved (view b s))
 
 pub stays : Stays
 stays b s = stayed (view b s)
@@ -105,21 +98,24 @@ pub same_again : SameAgain
 same_again b s e = ap (step_of b) (stays b s e)
 
 -- two readings on from a step are the same, where they are the same from the next state on
-same_after : (m n : ℕ) (b : List ℕ) (s : State) (places : List Place) (f : Found) (p : Place) (next : State) →
-    (goes_on f ≡ true → (ps : List Place) → read_from m b next ps ≡ read_from n b next ps) →
-    let r : StepAnswer = record { «found» = f; «place» = p; «next» = next } in
-    after_step m b s places r ≡ after_step n b s places r
-same_after m n b s places (found.Sheet h) p next same = same refl _
-same_after m n b s places found.Place p next same = same refl _
-same_after m n b s places (found.End count) p next same = refl
-same_after m n b s places (found.Refused why offset) p next same = refl
+same_after : (m n : ℕ) (b : List ℕ) (s : State) (places : List Place) (a : StepAnswer) →
+    (steps_on a ≡ true → (ps : List Place) → read_from m b (next_of s a) ps ≡ read_from n b (next_of s a) ps) →
+    after_step m b s places a ≡ after_step n b s places a
+same_after m n b s places (Ok advance) same = by_found advance.«found» same
+  where
+    by_found : (f : Found) → (goes_on f ≡ true → (ps : List Place) → read_from m b advance.«next» ps ≡ read_from n b advance.«next» ps) →
+        after_step m b s places (Ok (record { «found» = f; «next» = advance.«next» })) ≡ after_step n b s places (Ok (record { «found» = f; «next» = advance.«next» }))
+    by_found (found.Sheet h) same = same refl _
+    by_found (found.Place p) same = same refl _
+    by_found (found.End count) same = refl
+same_after m n b s places (Err why) same = refl
 
 pub bound_never_reached : BoundNeverReached
 bound_never_reached b s places zero n h k = absurd (let w : ⊥ = omega arith in w)
 bound_never_reached b s places (suc m) zero h k = absurd (let w : ⊥ = omega arith in w)
 bound_never_reached b s places (suc m) (suc n) h k =
     read_turn m b s places
-    ∙ same_after m n b s places (step_of b s).«found» (step_of b s).«place» (step_of b s).«next» (λ g ps.
+    ∙ same_after m n b s places (step_of b s) (λ g ps.
     let l = leads (view b s) g in
-    bound_never_reached b (step_of b s).«next» ps m n (omega arith) (omega arith))
+    bound_never_reached b (next_of s (step_of b s)) ps m n (omega arith) (omega arith))
     ∙ sym (read_turn n b s places)

@@ -1,5 +1,5 @@
 -- Document 01, 'The atlas file': what reading a file comes to.
-use Rattle.std.specs.Prelude.{ℕ, zero, suc, Bool, true, false, List, [], ◌∷◌, ◌++◌, length}
+use Rattle.std.specs.Prelude.{ℕ, zero, suc, Bool, true, false, List, [], ◌∷◌, ◌++◌, length, Result, Ok, Err}
 use Rattle.refusal.specs.declared.Refusal.{Refusal}
 use Rattle.refusal.specs.declared.Refusal.TheVariants.{Cut}
 use Rattle.refusal.specs.Numbers.{number_of}
@@ -9,9 +9,9 @@ use Rattle.sheet.specs.Sheets.{blank_sheet}
 use Rattle.atlas_file.specs.declared.State.{State}
 use Rattle.atlas_file.specs.declared.Found.{Found}
 use Rattle.atlas_file.specs.declared.Found.TheVariants as found
-use Rattle.atlas_file.specs.declared.reading.FileAnswer.{FileAnswer}
-use Rattle.atlas_file.specs.declared.reading.FileAnswer.TheVariants as answer
-use Rattle.atlas_file.specs.Steps.{step_of}
+use Rattle.atlas_file.specs.declared.reading.Atlas.{Atlas}
+use Rattle.atlas_file.specs.declared.reading.FileRefusal.{FileRefusal}
+use Rattle.atlas_file.specs.Steps.{StepAnswer, step_of}
 
 -- What comes back of a file: the number of the refusal (0 of an acceptance), the offset, the count, the sheet.
 pub record FileReply : Type 0 where
@@ -28,9 +28,9 @@ abbrev pub refused_file : Refusal → (offset : ℕ) → FileReply
 refused_file why offset = record { number = number_of why; offset = offset; count = 0; sheet = blank_sheet }
 
 -- the number and the values that an answer stands for
-abbrev pub file_reply_of : FileAnswer → FileReply
-file_reply_of (answer.Atlas count s) = accepted_file count s
-file_reply_of (answer.Refused why offset) = refused_file why offset
+abbrev pub file_reply_of : Result Atlas FileRefusal → FileReply
+file_reply_of (Ok atlas) = accepted_file atlas.«count» atlas.«sheet»
+file_reply_of (Err why) = refused_file why.«refusal» why.«offset»
 
 -- What reading gives: the reply, and the places in the order of the file; none where it is refused.
 pub record Reading : Type 0 where
@@ -50,19 +50,26 @@ start_of room = record { «at» = 0; sheet_read = false; «sheet» = blank_sheet
 -- whether the file goes on after what a step finds
 abbrev pub goes_on : Found → Bool
 goes_on (found.Sheet s) = true
-goes_on found.Place = true
+goes_on (found.Place p) = true
 goes_on (found.End count) = false
-goes_on (found.Refused why offset) = false
+
+-- and after what a step answers: a refusal is the last
+abbrev pub steps_on : StepAnswer → Bool
+steps_on (Ok advance) = goes_on advance.«found»
+steps_on (Err why) = false
 
 -- from a state on, after some places: step by step to the end or the first refusal, with a bound on the steps
 unfoldable pub read_from : (steps : ℕ) → List ℕ → State → List Place → Reading
 read_from zero b s places = refused_reading Cut s.«at»
 read_from (suc steps) b s places =
-    elim (step_of b s).«found» [
-      | found.Sheet h ↦ read_from steps b (step_of b s).«next» places
-      | found.Place ↦ read_from steps b (step_of b s).«next» (places ++ ((step_of b s).«place» ∷ []))
-      | found.End count ↦ accepted_reading count s.«sheet» places
-      | found.Refused why offset ↦ refused_reading why offset
+    elim (step_of b s) [
+      | Ok advance ↦
+          elim advance.«found» [
+            | found.Sheet h ↦ read_from steps b advance.«next» places
+            | found.Place p ↦ read_from steps b advance.«next» (places ++ (p ∷ []))
+            | found.End count ↦ accepted_reading count s.«sheet» places
+          ]
+      | Err why ↦ refused_reading why.«refusal» why.«offset»
     ]
 
 -- a file, for a table with so much room. Each record has a byte or more, so that the bound is never reached (Laws: BoundNeverReached).

@@ -1,5 +1,5 @@
 -- Document 01, 'The atlas file': the reader, one record for each step. A state is where it stands: the position `at` of a kind byte, whether the sheet is read, the sheet, how many places are read, the last id, and the room in the caller's table.
-use Rattle.std.specs.Prelude.{ℕ, suc, ◌+◌, Bool, true, not, ◌&&◌, List, [], ◌∷◌, ◌++◌, get_or, length, take, drop, eqb, ltb}
+use Rattle.std.specs.Prelude.{ℕ, suc, ◌+◌, Bool, true, not, ◌&&◌, List, [], ◌∷◌, ◌++◌, get_or, length, take, drop, eqb, ltb, Result, Ok, Err}
 use Rattle.refusal.specs.declared.Refusal.{Refusal}
 use Rattle.refusal.specs.declared.Refusal.TheVariants.{Cut, Kind, TrailingBytes, EndCount, NoRoom}
 use Rattle.refusal.specs.Numbers.{number_of}
@@ -8,13 +8,12 @@ use Rattle.sheet.specs.declared.Sheet.{Sheet}
 use Rattle.sheet.specs.Sheets.{sheet_rules, blank_sheet}
 use Rattle.records.specs.declared.Record.{Record}
 use Rattle.records.specs.declared.Record.TheVariants as records
-use Rattle.records.specs.declared.Layout.{Layout}
-use Rattle.records.specs.declared.Layout.TheVariants.{Known, Refused}
-use Rattle.records.specs.Records.{layout_of, record_number, sheet_of, place_of, end_of}
+use Rattle.records.specs.Records.{layout_of, body_of, record_number, sheet_of, place_of, end_of}
 use Rattle.atlas_file.specs.declared.State.{State}
 use Rattle.atlas_file.specs.declared.Found.{Found}
 use Rattle.atlas_file.specs.declared.Found.TheVariants as found
-use Rattle.atlas_file.specs.declared.StepAnswer.{StepAnswer}
+use Rattle.atlas_file.specs.declared.Advance.{Advance}
+use Rattle.atlas_file.specs.declared.reading.FileRefusal.{FileRefusal}
 use Rattle.place.specs.declared.Place.{Place}
 use Rattle.place.specs.Places.{blank_place, place_rules}
 
@@ -22,13 +21,20 @@ use Rattle.place.specs.Places.{blank_place, place_rules}
 abbrev pub most_places : ℕ
 most_places = 1000
 
--- after a refusal it stays: the refusal and the offset, no place, the same state
-unfoldable pub refused_step : State → Refusal → (offset : ℕ) → StepAnswer
-refused_step s why offset = record { «found» = found.Refused why offset; «place» = blank_place; «next» = s }
+-- what a step answers: what is found, and the state after it; or the refusal and its offset
+abbrev pub StepAnswer : Type 0
+StepAnswer = Result Advance FileRefusal
 
--- the offset is that of the record's kind byte
+abbrev pub refused_step : Refusal → (offset : ℕ) → StepAnswer
+refused_step why offset = Err (record { «refusal» = why; «offset» = offset })
+
+-- an answer about the record at a state: a refusal has the offset of the record's kind byte
+abbrev pub at_record : {T : Type 0} → State → Result T Refusal → Result T FileRefusal
+at_record s (Ok found) = Ok found
+at_record s (Err why) = Err (record { «refusal» = why; «offset» = s.«at» })
+
 abbrev pub refused_here : State → Refusal → StepAnswer
-refused_here s why = refused_step s why s.«at»
+refused_here s why = refused_step why s.«at»
 
 -- one sheet first, then places, one end: kind not due there, 2; a place when 1,000 are read or the caller's table is full, 10
 unfoldable pub due_rules : Record → State → List Rule
@@ -47,14 +53,14 @@ past_place s r = record { «at» = s.«at» + length r; sheet_read = s.sheet_rea
 unfoldable pub sheet_step : (r : List ℕ) → State → StepAnswer
 sheet_step r s =
     outcome (sheet_rules (sheet_of r))
-    (record { «found» = found.Sheet (sheet_of r); «place» = blank_place; «next» = past_sheet s r })
+    (Ok (record { «found» = found.Sheet (sheet_of r); «next» = past_sheet s r }))
     (refused_here s)
 
 -- a place: 6, 7, 8, 14; it is answered, and the state moves past it
 unfoldable pub place_step : (r : List ℕ) → State → StepAnswer
 place_step r s =
     outcome (place_rules s.«sheet» s.«count» s.last_id (place_of r))
-    (record { «found» = found.Place; «place» = place_of r; «next» = past_place s r })
+    (Ok (record { «found» = found.Place (place_of r); «next» = past_place s r }))
     (refused_here s)
 
 -- the end: 9, then 3 where more bytes follow
@@ -66,11 +72,11 @@ last_rules more = (not more else-refuse TrailingBytes) ∷ []
 
 -- 3 has the offset of the first byte past the end
 abbrev pub refused_past : State → (r : List ℕ) → Refusal → StepAnswer
-refused_past s r why = refused_step s why (s.«at» + length r)
+refused_past s r why = refused_step why (s.«at» + length r)
 
 -- the end is answered, and the state stays
 abbrev pub end_found : State → (r : List ℕ) → StepAnswer
-end_found s r = record { «found» = found.End (end_of r); «place» = blank_place; «next» = s }
+end_found s r = Ok (record { «found» = found.End (end_of r); «next» = s })
 
 unfoldable pub end_step : (r : List ℕ) (more : Bool) → State → StepAnswer
 end_step r more s = outcome (end_rules r s) (outcome (last_rules more) (end_found s r) (refused_past s r)) (refused_here s)
@@ -81,17 +87,17 @@ content_step records.Sheet r more s = sheet_step r s
 content_step records.Place r more s = place_step r s
 content_step records.End r more s = end_step r more s
 
--- a record with a body of so many bytes, at the front of the bytes that are left: due, 2 and 10; body short, 1; then what it holds
-unfoldable pub record_step : Record → (body : ℕ) (left : List ℕ) → State → StepAnswer
-record_step which body left s =
-    outcome (due_rules which s ++ ((ltb body (length left) else-refuse Cut) ∷ []))
-    (content_step which (take (suc body) left) (ltb (suc body) (length left)) s)
+-- a record at the front of the bytes that are left: due, 2 and 10; body short, 1; then what it holds
+unfoldable pub record_step : Record → (left : List ℕ) → State → StepAnswer
+record_step which left s =
+    outcome (due_rules which s ++ ((ltb (body_of which) (length left) else-refuse Cut) ∷ []))
+    (content_step which (take (suc (body_of which)) left) (ltb (suc (body_of which)) (length left)) s)
     (refused_here s)
 
 -- its kind byte fixes which record it is and how long; kind unknown, 2
-abbrev pub layout_step : Layout → (left : List ℕ) → State → StepAnswer
-layout_step (Known which body) left s = record_step which body left s
-layout_step (Refused why) left s = refused_here s why
+abbrev pub layout_step : Result Record Refusal → (left : List ℕ) → State → StepAnswer
+layout_step (Ok which) left s = record_step which left s
+layout_step (Err why) left s = refused_here s why
 
 -- the step: no kind byte, 1
 unfoldable pub step_of : List ℕ → State → StepAnswer
@@ -107,16 +113,21 @@ pub record StepReply : Type 0 where
   pub count : ℕ
   pub next : State
 
-abbrev pub found_reply : Found → Place → State → StepReply
-found_reply (found.Sheet h) p next = record { number = 0; offset = 0; which = record_number records.Sheet; sheet = h; place = p; count = 0; next = next }
-found_reply found.Place p next = record { number = 0; offset = 0; which = record_number records.Place; sheet = blank_sheet; place = p; count = 0; next = next }
-found_reply (found.End count) p next = record { number = 0; offset = 0; which = record_number records.End; sheet = blank_sheet; place = p; count = count; next = next }
-found_reply (found.Refused why offset) p next = record { number = number_of why; offset = offset; which = 0; sheet = blank_sheet; place = p; count = 0; next = next }
+abbrev pub found_reply : Found → State → StepReply
+found_reply (found.Sheet h) next = record { number = 0; offset = 0; which = record_number records.Sheet; sheet = h; place = blank_place; count = 0; next = next }
+found_reply (found.Place p) next = record { number = 0; offset = 0; which = record_number records.Place; sheet = blank_sheet; place = p; count = 0; next = next }
+found_reply (found.End count) next = record { number = 0; offset = 0; which = record_number records.End; sheet = blank_sheet; place = blank_place; count = count; next = next }
 
--- the number and the values that an answer stands for
-abbrev pub step_reply_of : StepAnswer → StepReply
-step_reply_of a = found_reply a.«found» a.«place» a.«next»
+-- the state after a step from s: after a refusal it is as it was
+abbrev pub next_of : State → StepAnswer → State
+next_of s (Ok advance) = advance.«next»
+next_of s (Err why) = s
+
+-- the number and the values that the answer to a step from s stands for
+abbrev pub step_reply_of : State → StepAnswer → StepReply
+step_reply_of s (Ok advance) = found_reply advance.«found» advance.«next»
+step_reply_of s (Err why) = record { number = number_of why.«refusal»; offset = why.«offset»; which = 0; sheet = blank_sheet; place = blank_place; count = 0; next = s }
 
 -- what a step comes to
 abbrev pub step_reply : List ℕ → State → StepReply
-step_reply b s = step_reply_of (step_of b s)
+step_reply b s = step_reply_of s (step_of b s)

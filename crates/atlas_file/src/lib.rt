@@ -6,21 +6,20 @@
 
 mod reading;
 
-ghost use Rattle.std.specs.Prelude.{◌≡◌, true, [], ◌+◌, ◌<◌, length, get_or, drop};
+ghost use Rattle.std.specs.Prelude.{◌≡◌, true, [], ◌+◌, ◌<◌, length, get_or, drop, Ok};
 ghost use Rattle.refusal.specs.Numbers.{accepted};
 ghost use Rattle.refusal.specs.Rules.{in_order, all_hold};
 ghost use Rattle.sheet.specs.Sheets.{passes_checks, reply_of};
 ghost use Rattle.records.specs.Records.{layout_of, IsRecord};
 ghost use Rattle.records.specs.declared.Record.TheVariants as records;
-ghost use Rattle.records.specs.declared.Layout.TheVariants.{Known};
 ghost use Rattle.place.specs.Places.{place_reply};
-ghost use Rattle.atlas_file.specs.Steps.{most_places, refused_step, due_rules, sheet_step, place_step, end_step, content_step, record_step, step_of, step_reply_of, step_reply};
+ghost use Rattle.atlas_file.specs.Steps.{most_places, at_record, due_rules, sheet_step, place_step, end_step, content_step, record_step, step_of, step_reply_of, step_reply};
 
 use place::Place;
-pub use reading::{FileAnswer, read_through, start};
-use records::{Layout, Record};
+pub use reading::{Atlas, FileRefusal, read_through, start};
+use records::Record;
 use refusal::Refusal;
-use sheet::{Sheet, Verdict};
+use sheet::{CheckedSheet, Sheet};
 
 // A file has up to this many places.
 pub const MOST_PLACES: usize = 1000;
@@ -30,7 +29,8 @@ pub const MOST_PLACES: usize = 1000;
 pub struct State {
     // The position of the next record's kind byte.
     pub at: usize,
-    // Whether the sheet is read, and the sheet.
+    // Whether the sheet is read, and the sheet. No Option: after a refusal the state is given as it was, the numbers of a sheet that is not read
+    // with it, by the contract of test_interface's melgoweth_test_step.
     pub sheet_read: bool,
     pub sheet: Sheet,
     // How many places are read, and the id of the last.
@@ -44,105 +44,94 @@ pub struct State {
 #[derive(Clone, Copy)]
 pub enum Found {
     Sheet(Sheet),
-    // The place is beside it in the answer.
-    Place,
+    Place(Place),
     End { count: usize },
-    Refused { refusal: Refusal, offset: usize },
 }
 
-// What a step answers.
+// A step that is not refused: what it finds, and where the reader stands then, past the sheet or the place; at the end, where it stood.
 #[derive(Clone, Copy)]
-pub struct StepAnswer {
+pub struct Advance {
     pub found: Found,
-    // The place that was found, or zeros.
-    pub place: Place,
-    // Where the reader stands now: past the sheet or the place; after a refusal or the end, where it stood.
     pub next: State,
 }
 
+impl State {
+    // An answer about the record at which it stands: a refusal has the offset of the record's kind byte.
+    fn here<T>(self, answer: Result<T, Refusal>) -> Result<T, FileRefusal>
+        ensures { result ≡ at_record self answer }
+    {
+        match answer {
+            Ok(found) => Ok(found),
+            Err(refusal) => Err(FileRefusal {
+                refusal,
+                offset: self.at,
+            }),
+        }
+    }
+}
+
 // Reads the record at a state, which may be any: 1, 2, 10, 1; a sheet 4, 5; a place 6, 7, 8, 14; the end 9, 3.
-pub fn step(bytes: &[u8], state: State) -> StepAnswer
-    ensures { step_reply_of result ≡ step_reply bytes.now state }
+pub fn step(bytes: &[u8], state: State) -> Result<Advance, FileRefusal>
+    ensures { step_reply_of state result ≡ step_reply bytes.now state }
 {
     step_unchecked(bytes, state, false)
 }
 
-// The same; where `checked` is set, the state's sheet passes its checks and is not checked again.
-fn step_unchecked(bytes: &[u8], state: State, checked: bool) -> StepAnswer
+// The same; where `checked` is set, the state's sheet passes its checks and is not checked again. No plainer with the check as a closure, which
+// may be called only once the sheet is read, so that each function below would carry two clauses about it, nor with a struct of the state and the
+// flag, which each would take apart.
+fn step_unchecked(bytes: &[u8], state: State, checked: bool) -> Result<Advance, FileRefusal>
     requires { checked ≡ true → passes_checks state.sheet ≡ true }
     ensures { result ≡ step_of bytes.now state }
 {
-    let at = state.at;
-    if bytes.len() <= at {
-        return refused(state, Refusal::Cut, at);
+    if bytes.len() <= state.at {
+        return state.here(Err(Refusal::Cut));
     }
-    let layout = records::layout_of(bytes[at]);
-    match layout {
-        Layout::Known { record, body } => record_step(bytes, state, checked, record, body),
-        Layout::Refused(r) => refused(state, r, at),
-    }
+    let record = state.here(Record::try_from(bytes[state.at]))?;
+    record_step(bytes, state, checked, record)
 }
 
 // The record whose kind is known.
-fn record_step(bytes: &[u8], state: State, checked: bool, which: Record, body: usize) -> StepAnswer
+fn record_step(
+    bytes: &[u8],
+    state: State,
+    checked: bool,
+    which: Record,
+) -> Result<Advance, FileRefusal>
     requires sheet_value { checked ≡ true → passes_checks state.sheet ≡ true }
     requires at_in_bounds { state.at < length bytes.now }
-    requires at_value { layout_of (get_or bytes.now state.at 0) ≡ Known which body }
-    ensures { result ≡ record_step which body (drop state.at bytes.now) state }
+    requires at_value { layout_of (get_or bytes.now state.at 0) ≡ Ok which }
+    ensures { result ≡ record_step which (drop state.at bytes.now) state }
 {
-    let at = state.at;
-    let verdict = due(state, which);
-    match verdict {
-        Verdict::Good => {
-            let left = bytes.len() - at;
-            if left <= body {
-                return refused(state, Refusal::Cut, at);
-            }
-            let end = at + 1 + body;
-            let more = end < bytes.len();
-            content_step(&bytes[at..end], end, more, state, checked, which)
-        }
-        Verdict::Refused(r) => refused(state, r, at),
+    state.here(due(state, which))?;
+    let body = which.body();
+    if bytes.len() - state.at <= body {
+        return state.here(Err(Refusal::Cut));
     }
+    let end = state.at + 1 + body;
+    let more = end < bytes.len();
+    content_step(&bytes[state.at..end], end, more, state, checked, which)
 }
 
 // Whether a record is due at a state (2), and a place has room (10).
-fn due(state: State, which: Record) -> Verdict
+#[tactic(auto, unfolding(crate::specs::Steps::due_rules))]
+fn due(state: State, which: Record) -> Result<(), Refusal>
     ensures { reply_of result ≡ in_order 0 (due_rules which state) (accepted []) }
 {
-    let read = state.sheet_read;
-    let count = state.count;
-    let room = state.room;
     match which {
-        Record::Sheet => {
-            if read {
-                Verdict::Refused(Refusal::Kind)
-            } else {
-                Verdict::Good
-            }
+        Record::Sheet if state.sheet_read => Err(Refusal::Kind),
+        Record::Sheet => Ok(()),
+        _ if !state.sheet_read => Err(Refusal::Kind),
+        Record::Place if (MOST_PLACES <= state.count) | (state.room <= state.count) => {
+            Err(Refusal::NoRoom)
         }
-        Record::Place => {
-            if read {
-                if (count < MOST_PLACES) & (count < room) {
-                    Verdict::Good
-                } else {
-                    Verdict::Refused(Refusal::NoRoom)
-                }
-            } else {
-                Verdict::Refused(Refusal::Kind)
-            }
-        }
-        Record::End => {
-            if read {
-                Verdict::Good
-            } else {
-                Verdict::Refused(Refusal::Kind)
-            }
-        }
+        Record::Place | Record::End => Ok(()),
     }
 }
 
-// A record that is whole and due, by its bytes; it ends at `end`, and `more` says whether bytes follow it.
+// A record that is whole and due, by its bytes; it ends at `end`, and `more` says whether bytes follow it. (No plainer with a type for a record's
+// bytes and its end: three of the four functions that take both would take it apart for a line.)
+#[tactic(auto, unfolding(crate::specs::Steps::content_step))]
 fn content_step(
     bytes: &[u8],
     end: usize,
@@ -150,7 +139,7 @@ fn content_step(
     state: State,
     checked: bool,
     which: Record,
-) -> StepAnswer
+) -> Result<Advance, FileRefusal>
     requires sheet_value { checked ≡ true → passes_checks state.sheet ≡ true }
     requires fact { IsRecord which bytes.now }
     requires end_value { end ≡ state.at + length bytes.now }
@@ -165,119 +154,77 @@ fn content_step(
 }
 
 // A sheet: 4, 5.
-fn sheet_step(bytes: &[u8], end: usize, state: State) -> StepAnswer
+fn sheet_step(bytes: &[u8], end: usize, state: State) -> Result<Advance, FileRefusal>
     requires fact { IsRecord records.Sheet bytes.now }
     requires end_value { end ≡ state.at + length bytes.now }
     ensures { result ≡ sheet_step bytes.now state }
 {
-    let at = state.at;
     let sheet = records::decode_sheet_unchecked(bytes);
-    let verdict = sheet::check(sheet);
-    match verdict {
-        Verdict::Good => {
-            let place = place::blank();
-            let found = Found::Sheet(sheet);
-            let next = State {
-                at: end,
-                sheet_read: true,
-                sheet: sheet,
-                count: state.count,
-                last_id: state.last_id,
-                room: state.room,
-            };
-            StepAnswer {
-                found: found,
-                place: place,
-                next: next,
-            }
-        }
-        Verdict::Refused(r) => refused(state, r, at),
-    }
+    state.here(sheet::check(sheet))?;
+    Ok(Advance {
+        found: Found::Sheet(sheet),
+        next: State {
+            at: end,
+            sheet_read: true,
+            sheet,
+            ..state
+        },
+    })
 }
 
 // A place: 6, 7, 8, 14.
-fn place_step(bytes: &[u8], end: usize, state: State, checked: bool) -> StepAnswer
+fn place_step(bytes: &[u8], end: usize, state: State, checked: bool) -> Result<Advance, FileRefusal>
     requires sheet_value { checked ≡ true → passes_checks state.sheet ≡ true }
     requires fact { IsRecord records.Place bytes.now }
     requires end_value { end ≡ state.at + length bytes.now }
     requires count_lt_most_places { state.count < most_places }
     ensures { result ≡ place_step bytes.now state }
 {
-    let at = state.at;
     let place = records::decode_place_unchecked(bytes);
-    let verdict = verdict_for(state, checked, place);
-    match verdict {
-        Verdict::Good => {
-            let found = Found::Place;
-            let sheet = state.sheet;
-            let next = State {
-                at: end,
-                sheet_read: state.sheet_read,
-                sheet: sheet,
-                count: state.count + 1,
-                last_id: place.id,
-                room: state.room,
-            };
-            StepAnswer {
-                found: found,
-                place: place,
-                next: next,
-            }
-        }
-        Verdict::Refused(r) => refused(state, r, at),
-    }
+    state.here(verdict_for(state, checked, place))?;
+    Ok(Advance {
+        found: Found::Place(place),
+        next: State {
+            at: end,
+            count: state.count + 1,
+            last_id: place.id,
+            ..state
+        },
+    })
 }
 
 // The check of the next place at a state.
-fn verdict_for(state: State, checked: bool, place: Place) -> Verdict
+fn verdict_for(state: State, checked: bool, place: Place) -> Result<(), Refusal>
     requires { checked ≡ true → passes_checks state.sheet ≡ true }
     ensures { reply_of result ≡ place_reply state.sheet state.count state.last_id place }
 {
-    let sheet = state.sheet;
     if checked {
-        place::check_place_unchecked(sheet, state.count, state.last_id, place)
+        let checked = CheckedSheet { sheet: state.sheet };
+        place::check_place_on(checked, state.count, state.last_id, place)
     } else {
-        place::check_place(sheet, state.count, state.last_id, place)
+        place::check_place(state.sheet, state.count, state.last_id, place)
     }
 }
 
 // The end: 9, then 3.
-fn end_step(bytes: &[u8], end: usize, more: bool, state: State) -> StepAnswer
+#[tactic(auto, unfolding(crate::specs::Steps::end_step))]
+fn end_step(bytes: &[u8], end: usize, more: bool, state: State) -> Result<Advance, FileRefusal>
     requires fact { IsRecord records.End bytes.now }
     requires end_value { end ≡ state.at + length bytes.now }
     ensures { result ≡ end_step bytes.now more state }
 {
-    let at = state.at;
     let count = records::decode_end_unchecked(bytes) as usize;
-    if count == state.count {
-        if more {
-            refused(state, Refusal::TrailingBytes, end)
-        } else {
-            let place = place::blank();
-            let found = Found::End { count: count };
-            StepAnswer {
-                found: found,
-                place: place,
-                next: state,
-            }
-        }
-    } else {
-        refused(state, Refusal::EndCount, at)
+    if count != state.count {
+        return state.here(Err(Refusal::EndCount));
     }
-}
-
-// A refusal: no place, and the state as it was.
-fn refused(state: State, r: Refusal, offset: usize) -> StepAnswer
-    ensures { result ≡ refused_step state r offset }
-{
-    let place = place::blank();
-    let found = Found::Refused {
-        refusal: r,
-        offset: offset,
-    };
-    StepAnswer {
-        found: found,
-        place: place,
+    if more {
+        return Err(FileRefusal {
+            refusal: Refusal::TrailingBytes,
+            offset: end,
+        });
+    }
+    Ok(Advance {
+        found: Found::End { count },
         next: state,
-    }
+    })
 }

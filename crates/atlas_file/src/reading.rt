@@ -7,59 +7,57 @@ use refusal::Refusal;
 use sheet::Sheet;
 
 // Before the first record, with room for so many places.
+#[tactic(auto, unfolding(crate::specs::Reading::start_of))]
 pub fn start(room: usize) -> State
     ensures { result ≡ start_of room }
 {
-    let sheet = sheet::blank();
     State {
         at: 0,
         sheet_read: false,
-        sheet: sheet,
+        sheet: sheet::blank(),
         count: 0,
         last_id: 0,
-        room: room,
+        room,
     }
 }
 
-// What reading a file comes to.
+// Why a file is refused, and the offset of the record's kind byte; of 3, that of the first byte past the end.
+#[derive(Clone, Copy, Debug, PartialEq, Eq)]
+pub struct FileRefusal {
+    pub refusal: Refusal,
+    pub offset: usize,
+}
+
+// A refusal that no record gives has offset 0.
+impl From<Refusal> for FileRefusal {
+    ghost from_gives = { λ refusal gives. gives ≡ record { «refusal» = refusal; «offset» = 0 } };
+
+    fn from(refusal: Refusal) -> FileRefusal {
+        FileRefusal { refusal, offset: 0 }
+    }
+}
+
+// What an accepted file holds: how many places, and its sheet.
 #[derive(Clone, Copy)]
-pub enum FileAnswer {
-    // It is accepted: how many places it has, and its sheet.
-    Atlas { count: usize, sheet: Sheet },
-    // The refusal, and the offset of the record's kind byte; of 3, that of the first byte past the end.
-    Refused { refusal: Refusal, offset: usize },
+pub struct Atlas {
+    pub count: usize,
+    pub sheet: Sheet,
 }
 
 // Reads a file through, to its end or to the first refusal, for a table with room for so many places. No place is stored.
-pub fn read_through(bytes: &[u8], room: usize) -> FileAnswer
+pub fn read_through(bytes: &[u8], room: usize) -> Result<Atlas, FileRefusal>
     ensures { file_reply_of result ≡ read_reply bytes.now room }
 {
     let mut state = start(room);
+    // counts no index: each step leads to the next state
     loop {
-        let answer = step_unchecked(bytes, state, state.sheet_read);
-        let found = answer.found;
-        match found {
-            Found::Sheet(_) => {
-                let next = answer.next;
-                state = next;
-            }
-            Found::Place => {
-                let next = answer.next;
-                state = next;
-            }
-            Found::End { count } => {
-                let sheet = state.sheet;
-                return FileAnswer::Atlas {
-                    count: count,
-                    sheet: sheet,
-                };
-            }
-            Found::Refused { refusal, offset } => {
-                return FileAnswer::Refused {
-                    refusal: refusal,
-                    offset: offset,
-                };
-            }
+        let advance = step_unchecked(bytes, state, state.sheet_read)?;
+        if let Found::End { count } = advance.found {
+            return Ok(Atlas {
+                count,
+                sheet: state.sheet,
+            });
         }
+        state = advance.next;
     }
 }

@@ -1,16 +1,16 @@
 -- Document 01, 'From globe to map': the equidistant conic projection on the sphere, northern cone (Snyder, chapter 16).
-use Rattle.std.specs.Prelude.{Bool, ◌&&◌, List, [], ◌∷◌, ◌++◌, ℤ, ◌-ℤ◌, ◌*ℤ◌}
+use Rattle.std.specs.Prelude.{Bool, ◌&&◌, List, [], ◌∷◌, ◌++◌, ℤ, ◌-ℤ◌, ◌*ℤ◌, Result}
 use Rattle.std.specs.Int.Signed.{quot_z}
 use Rattle.arith.specs.Bounds.{size_up_to}
+use Rattle.refusal.specs.declared.Refusal.{Refusal}
 use Rattle.refusal.specs.declared.Refusal.TheVariants.{OffSheet, OutOfRange}
-use Rattle.refusal.specs.Numbers.{Reply, accepted, refused}
+use Rattle.refusal.specs.Numbers.{Reply, accepted, reply_by}
 use Rattle.refusal.specs.Rules.{Rule, ◌else-refuse◌, in_order}
 use Rattle.trig.specs.Trig.{ONE, sine_of, cosine_of}
 use Rattle.cone.specs.Cone.{cone_angle_of}
 use Rattle.sheet.specs.declared.Sheet.{Sheet}
 use Rattle.sheet.specs.Sheets.{f0, n, g, sheet_rules, offset_of, on_sheet}
-use Rattle.conic.specs.declared.MapAnswer.{MapAnswer}
-use Rattle.conic.specs.declared.MapAnswer.TheVariants.{Point, Refused}
+use Rattle.conic.specs.declared.MapPoint.{MapPoint}
 
 -- Refused in this order: sheet limits 4, constants 5 (`sheet_rules`), latitude beyond ±90,000,000 or longitude beyond ±180,000,000 with 12, off the sheet with 11.
 abbrev pub in_range : (latitude longitude : ℤ) → Bool
@@ -50,6 +50,5 @@ forward_reply s latitude longitude =
     in_order 2 (sheet_rules s ++ position_rules s latitude longitude) (accepted (x_of s latitude longitude ∷ y_of s latitude longitude ∷ []))
 
 -- the number and the values that an answer stands for
-abbrev pub map_reply_of : MapAnswer → Reply
-map_reply_of (Point x y) = accepted (x ∷ y ∷ [])
-map_reply_of (Refused r) = refused 2 r
+abbrev pub map_reply_of : Result MapPoint Refusal → Reply
+map_reply_of = reply_by 2 (λ p. p.x ∷ p.y ∷ [])

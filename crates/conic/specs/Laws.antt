@@ -1,5 +1,6 @@
 -- What holds of globe to map and of map to globe: the mirror, and the laws that the other crates go by. Each is proved in proofs/, in the file that its comment names. Demand 3 is in `accuracy`.
-use Rattle.std.specs.Prelude.{true, [], ◌∷◌, ◌++◌, ◌≡◌, ℤ, pos, neg_ℤ, ◌+ℤ◌, ◌*ℤ◌, ◌<ℤ◌}
+use Rattle.std.specs.Prelude.{true, [], ◌∷◌, ◌++◌, ◌≡◌, ℤ, pos, neg_ℤ, ◌+ℤ◌, ◌*ℤ◌, ◌<ℤ◌, Result}
+use Rattle.refusal.specs.declared.Refusal.{Refusal}
 use Rattle.refusal.specs.Numbers.{accepted}
 use Rattle.refusal.specs.Rules.{in_order}
 use Rattle.trig.specs.Trig.{Root}
@@ -7,17 +8,17 @@ use Rattle.cone.specs.Cone.{radius_at}
 use Rattle.sheet.specs.declared.Sheet.{Sheet}
 use Rattle.sheet.specs.Sheets.{passes_checks, sheet_rules, on_sheet}
 use Rattle.sheet.specs.Laws.{mirrored}
-use Rattle.conic.specs.declared.MapAnswer.{MapAnswer}
-use Rattle.conic.specs.declared.GlobeAnswer.{GlobeAnswer}
+use Rattle.conic.specs.declared.MapPoint.{MapPoint}
+use Rattle.conic.specs.declared.Position.{Position}
 use Rattle.conic.specs.Conic.{x_of, y_of, forward_reply, map_reply_of}
 use Rattle.conic.specs.MapToGlobe.{point_in_range, v_of, point_on_sheet, latitude_of, longitude_of, point_rules, inverse_reply, globe_reply_of}
 
 -- two answers never share a number and values, so that the contracts fix the answer (Answers)
 abbrev pub DistinctMapReplies : Type 0
-DistinctMapReplies = (a b : MapAnswer) → map_reply_of a ≡ map_reply_of b → a ≡ b
+DistinctMapReplies = (a b : Result MapPoint Refusal) → map_reply_of a ≡ map_reply_of b → a ≡ b
 
 abbrev pub DistinctGlobeReplies : Type 0
-DistinctGlobeReplies = (a b : GlobeAnswer) → globe_reply_of a ≡ globe_reply_of b → a ≡ b
+DistinctGlobeReplies = (a b : Result Position Refusal) → globe_reply_of a ≡ globe_reply_of b → a ≡ b
 
 -- forward answers exactly what is on a sheet that passes its checks, and that with x and y; a reply with the number 0 is such an answer (Answered)
 abbrev pub OnSheetAnswered : Type 0

@@ -1,16 +1,16 @@
 -- Document 01, 'From map to globe'. What needs of the sheet only n and w is in `cone`: root(x² + v²), left and right of an offset, and the halving.
-use Rattle.std.specs.Prelude.{Bool, ◌&&◌, List, [], ◌∷◌, ◌++◌, ℕ, ℤ, pos, neg_ℤ, ◌+ℤ◌, ◌-ℤ◌}
+use Rattle.std.specs.Prelude.{Bool, ◌&&◌, List, [], ◌∷◌, ◌++◌, ℕ, ℤ, pos, neg_ℤ, ◌+ℤ◌, ◌-ℤ◌, Result}
 use Rattle.std.specs.Int.Signed.{lt_z}
 use Rattle.arith.specs.Bounds.{is_within, size_up_to}
+use Rattle.refusal.specs.declared.Refusal.{Refusal}
 use Rattle.refusal.specs.declared.Refusal.TheVariants.{OffSheet, OutOfRange, AnswerOffSheet}
-use Rattle.refusal.specs.Numbers.{Reply, accepted, refused}
+use Rattle.refusal.specs.Numbers.{Reply, accepted, reply_by}
 use Rattle.refusal.specs.Rules.{Rule, ◌else-refuse◌, in_order}
 use Rattle.cone.specs.Cone.{radius_at, sine_cosine_at, not_left, not_right, offset_at}
 use Rattle.sheet.specs.declared.Sheet.{Sheet}
 use Rattle.sheet.specs.Sheets.{m0, fs, fn, w, n, g, sheet_rules, shifted, on_sheet}
 use Rattle.conic.specs.declared.EdgeValues.{EdgeValues}
-use Rattle.conic.specs.declared.GlobeAnswer.{GlobeAnswer}
-use Rattle.conic.specs.declared.GlobeAnswer.TheVariants.{Position, Refused}
+use Rattle.conic.specs.declared.Position.{Position}
 use Rattle.conic.specs.Conic.{r0}
 
 -- Refusals 4, 5 (`sheet_rules`), then 12 when |x| or |y| passes 536,870,912.
@@ -60,9 +60,8 @@ abbrev pub inverse_reply : Sheet → (x y : ℤ) → Reply
 inverse_reply s x y = in_order 2 (sheet_rules s ++ point_rules s x y) (held_reply s (latitude_of s x y) (longitude_of s x y))
 
 -- the number and the values that an answer stands for
-abbrev pub globe_reply_of : GlobeAnswer → Reply
-globe_reply_of (Position latitude longitude) = accepted (latitude ∷ longitude ∷ [])
-globe_reply_of (Refused r) = refused 2 r
+abbrev pub globe_reply_of : Result Position Refusal → Reply
+globe_reply_of = reply_by 2 (λ p. p.latitude ∷ p.longitude ∷ [])
 
 -- What depends on the sheet alone: r0, and sine and cosine at both edges.
 abbrev pub edge_values_of : Sheet → EdgeValues

@@ -8,7 +8,7 @@ use lib.Dec.{eqb}
 use Rattle.nearest.specs.Taps.{squared, squared_distance, is_before, within_reach_from, within_reach}
 use Rattle.reach.specs.Lists.{insert_into, sort_onto, sorted_in_reach}
 use Rattle.within_reach.specs.Lists.{listed_after, places_after, list_reply}
-use Rattle.atlas_file.specs.Steps.{most_places, refused_step, step_of}
+use Rattle.atlas_file.specs.Steps.{most_places, step_of}
 use Rattle.atlas_file.specs.Reading.{Reading, start_of, read_from, read_of}
 use Rattle.text.specs.Decimals.{digits_up_to, decimal}
 use Rattle.text.specs.Lines.{crowd_line, file_refused_line}
@@ -49,5 +49,5 @@ unfolding reported crowding_of squared squared_distance within_reach_from within
 mill-reported = ap reported (mill-read_in most_places (omega arith))
 
 pub nothing_reported : NothingReported
-unfolding crowding_of listing_of file_refused_line digits_up_to decimal refused_step step_of start_of read_from read_of
+unfolding crowding_of listing_of file_refused_line digits_up_to decimal step_of start_of read_from read_of
 nothing_reported = refl

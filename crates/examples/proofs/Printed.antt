@@ -10,7 +10,7 @@ use Rattle.cone.specs.Cone.{cone_angle_of, radius_at, not_left, not_right, halve
 use Rattle.sheet.specs.Sheets.{within_limits, cone_agrees, radius_agrees, constants_agree, sheet_rules, shifted, offset_of, on_sheet}
 use Rattle.conic.specs.MapToGlobe.{point_on_sheet, latitude_of, longitude_of, point_rules}
 use Rattle.nearest.specs.Taps.{squared, squared_distance, is_before, better, best_of, within_reach_from, within_reach, nearest_reply}
-use Rattle.atlas_file.specs.Steps.{most_places, refused_step, step_of}
+use Rattle.atlas_file.specs.Steps.{most_places, step_of}
 use Rattle.atlas_file.specs.Reading.{Reading, start_of, read_from, read_of}
 use Rattle.text.specs.Decimals.{digits_up_to, decimal, signed, is_numeral, is_number, spelled}
 use Rattle.text.specs.Lines.{count_line, place_line, file_refused_line, found_line, refused_line, nothing_found_line}
@@ -32,11 +32,11 @@ unfolding listed listing_of count_line place_line digits_up_to decimal signed
 mill-listed = ap listed (mill-read_in most_places (omega arith))
 
 pub nothing_listed : NothingListed
-unfolding listing_of file_refused_line digits_up_to decimal refused_step step_of start_of read_from read_of
+unfolding listing_of file_refused_line digits_up_to decimal step_of start_of read_from read_of
 nothing_listed = refl
 
 pub nothing_tapped : NothingTapped
-unfolding tap_output listing_of file_refused_line digits_up_to decimal refused_step step_of start_of read_from read_of
+unfolding tap_output listing_of file_refused_line digits_up_to decimal step_of start_of read_from read_of
 nothing_tapped input = refl
 
 pub mill-tapped : MillTapped

@@ -12,7 +12,7 @@ use Rattle.little_endian.specs.Numbers.{signed, unsigned, i32_at, u32_bytes, num
 use Rattle.place.specs.Names.{is_name}
 use Rattle.records.specs.Records.{layout_of, sheet_of, sheet_record, place_of, place_record, end_of, end_record}
 use Rattle.place.specs.Places.{place_rules_at, place_rules}
-use Rattle.atlas_file.specs.Steps.{refused_step, due_rules, sheet_step, place_step, end_step, content_step, record_step, step_of}
+use Rattle.atlas_file.specs.Steps.{due_rules, sheet_step, place_step, end_step, content_step, record_step, step_of}
 use Rattle.atlas_file.specs.Reading.{Reading, accepted_reading, start_of, read_from, read_of}
 use Rattle.atlas_file.specs.Writing.{place_records, file_of, places_rules, list_rules, write_rules}
 use Rattle.integrity.proofs.Rooms.{room_enough}
@@ -27,7 +27,7 @@ pub mill-read : MillRead
 unfolding angle_of square_of series_of sine_of cosine_of
     within_limits cone_angle_of cone_agrees radius_agrees constants_agree sheet_rules shifted offset_of on_sheet position_rules t_of x_at y_at x_of y_of
     signed unsigned i32_at u32_bytes numbers_bytes is_name layout_of sheet_of sheet_record place_of place_record end_of end_record
-    place_rules_at place_rules refused_step due_rules sheet_step place_step end_step content_step record_step step_of start_of read_from read_of place_records file_of
+    place_rules_at place_rules due_rules sheet_step place_step end_step content_step record_step step_of start_of read_from read_of place_records file_of
 mill-read = refl
 
 one : (read_of mill_file 1).reply.count ≡ 1
@@ -44,7 +44,7 @@ pub mill-cut : MillCut
 mill-cut k h = ap (λ (r : Reading). r.reply.number) (cut_refused mill_file 1 1 k good (omega (arith, one)) (omega (arith, mill-length))).2
 
 pub nothing_read : NothingRead
-unfolding refused_step step_of start_of read_from read_of
+unfolding step_of start_of read_from read_of
 nothing_read = refl
 
 pub short_buffer : ShortBuffer

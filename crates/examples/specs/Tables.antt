@@ -4,7 +4,6 @@ use Rattle.refusal.specs.declared.Refusal.TheVariants.{OutOfRange, NothingInReac
 use Rattle.refusal.specs.Numbers.{Reply, accepted, refused}
 use Rattle.sheet.specs.Samples.{sheet_a}
 use Rattle.place.specs.declared.Place.{Place}
-use Rattle.place.specs.Places.{blank_place}
 use Rattle.nearest.specs.Taps.{usual_reach, nearest_reply}
 use Rattle.atlas.specs.Tables.{table_after}
 use Rattle.atlas.specs.Buffers.{buffer_after}

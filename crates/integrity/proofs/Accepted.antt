@@ -20,10 +20,9 @@ use Rattle.sheet.specs.Sheets.{sheet_rules}
 use Rattle.records.specs.declared.Record.TheVariants as records
 use Rattle.place.specs.declared.Place.{Place}
 use Rattle.atlas_file.specs.declared.State.{State}
-use Rattle.atlas_file.specs.declared.StepAnswer.{StepAnswer}
 use Rattle.records.specs.Records.{IsRecord, sheet_of, place_of, sheet_record, place_record, end_record}
 use Rattle.place.specs.Places.{place_rules}
-use Rattle.atlas_file.specs.Steps.{past_sheet, past_place, most_places, refused_step}
+use Rattle.atlas_file.specs.Steps.{StepAnswer, past_sheet, past_place, most_places}
 use Rattle.atlas_file.specs.Reading.{Reading, accepted_reading, start_of, read_from, read_of, read_reply, places_read}
 use Rattle.atlas_file.proofs.Views.{byte_at, Stepped, refused, sheet, place, end, view}
 use Rattle.little_endian.specs.Numbers.{Bytes}
@@ -41,7 +40,6 @@ use Rattle.integrity.proofs.RunReads.{Run, ends, goes, run_length, file_reads}
 runs_turn : (n : ℕ) (b : List ℕ) (s : State) (places : List Place) {r : StepAnswer} → Stepped b s r → s.sheet_read ≡ true → (after_step n b s places r).reply.number ≡ 0 →
     ((t : State) (qs : List Place) → t.sheet_read ≡ true → (read_from n b t qs).reply.number ≡ 0 → (ps : List Place) × Run b t ps) →
     (ps : List Place) × Run b s ps
-unfolding refused_step
 runs_turn n b s places (refused why offset) read e on = absurd (no_number_zero why e)
 runs_turn n b s places (sheet r rest i at unread ok) read e on = absurd (true≢false (sym read ∙ unread))
 runs_turn n b s places (place r rest i at _ few room ok) read e on =
@@ -67,7 +65,7 @@ pub record Whole (b : List ℕ) (room : ℕ) : Type 0 where
 
 whole-turn : (n : ℕ) (b : List ℕ) (room : ℕ) {r : StepAnswer} → Stepped b (start_of room) r → (after_step n b (start_of room) [] r).reply.number ≡ 0 →
     Whole b room
-unfolding refused_step start_of
+unfolding start_of
 whole-turn n b room (refused why offset) e = absurd (no_number_zero why e)
 whole-turn n b room (sheet r rest i at unread ok) e =
     let o = runs n b (past_sheet (start_of room) r) [] refl e in

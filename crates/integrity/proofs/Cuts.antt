@@ -10,6 +10,7 @@ use lib.Seq.{length-take-le, drop-append-le, take-append-le, take_all}
 use lib.Dec.{ltb, leb}
 use borrow.Author.Tests.{ltb-true, ltb-false, leb-true, leb-false, lt-ltb}
 use Rattle.arith.proofs.Choose.{choose, by_test}
+use Rattle.std.specs.Prelude.{Result, Ok, Err}
 use Rattle.refusal.specs.declared.Refusal.{Refusal}
 use Rattle.refusal.specs.declared.Refusal.TheVariants.{Cut, TrailingBytes}
 use Rattle.refusal.specs.Rules.{all_hold}
@@ -18,15 +19,12 @@ use Rattle.refusal.proofs.InOrder.{by_outcome, by_outcomes}
 use Rattle.sheet.specs.Sheets.{sheet_rules}
 use Rattle.records.specs.declared.Record.{Record}
 use Rattle.records.specs.declared.Record.TheVariants as records
-use Rattle.records.specs.declared.Layout.{Layout}
-use Rattle.records.specs.declared.Layout.TheVariants.{Known, Refused}
 use Rattle.place.specs.declared.Place.{Place}
 use Rattle.atlas_file.specs.declared.State.{State}
-use Rattle.atlas_file.specs.declared.StepAnswer.{StepAnswer}
-use Rattle.records.specs.Records.{layout_of, IsRecord, sheet_of, place_of}
+use Rattle.records.specs.Records.{layout_of, body_of, IsRecord, sheet_of, place_of}
 use Rattle.records.specs.Laws.{longest_sheet_record}
 use Rattle.place.specs.Places.{place_rules}
-use Rattle.atlas_file.specs.Steps.{past_sheet, past_place, most_places, refused_step, refused_here, due_rules, end_rules, sheet_step, place_step, end_step, content_step, record_step, layout_step, step_of}
+use Rattle.atlas_file.specs.Steps.{StepAnswer, past_sheet, past_place, most_places, refused_step, refused_here, due_rules, end_rules, sheet_step, place_step, end_step, content_step, record_step, layout_step, step_of}
 use Rattle.atlas_file.specs.Reading.{Reading, refused_reading, start_of, read_from, read_of}
 use Rattle.integrity.specs.Integrity.{longest_file, CutRefused, FirstBytesDecide}
 use Rattle.records.proofs.SheetRecords.{sheet-most}
@@ -47,8 +45,8 @@ record Early (s : State) : Type 0 where
   few : s.«count» ≤ most_places
 
 -- a kind byte and a body of zeros
-blank_record : (which : Record) (k body : ℕ) → layout_of k ≡ Known which body → IsRecord which (k ∷ replicate body 0)
-blank_record which k body e = record { body = body; layout = e; whole = ap suc (length-replicate body 0) }
+blank_record : (which : Record) (k : ℕ) → layout_of k ≡ Ok which → IsRecord which (k ∷ replicate (body_of which) 0)
+blank_record which k e = record { layout = e; whole = ap suc (length-replicate (body_of which) 0) }
 
 module _ (s : State) (early : Early s) where
   before : s.sheet_read ≡ false → s.«at» ≤ 0
@@ -82,16 +80,16 @@ module _ (x y : List ℕ) (more : 0 < length y) where
     Steps : StepAnswer → StepAnswer → Type 0
     Steps a c = Compared (length x) (after_step n (x ++ y) s places a) (after_step m x s places c)
 
-    refused : (why : Refusal) (offset : ℕ) → Steps (refused_step s why offset) (refused_step s why offset)
-    unfolding Steps refused_step
+    refused : (why : Refusal) (offset : ℕ) → Steps (refused_step why offset) (refused_step why offset)
+    unfolding Steps
     refused why offset = agree why offset
 
     short : (a : StepAnswer) → length x ≤ longest_file → Steps a (refused_here s Cut)
-    unfolding Steps refused_step
+    unfolding Steps
     short a l = cut _ _ inside l
 
-    past_end : (offset : ℕ) (a : StepAnswer) → length x ≤ longest_file → Steps (refused_step s TrailingBytes offset) a
-    unfolding Steps refused_step
+    past_end : (offset : ℕ) (a : StepAnswer) → length x ≤ longest_file → Steps (refused_step TrailingBytes offset) a
+    unfolding Steps
     past_end offset a l = past _ _ l
 
     -- a record that is whole in x; in x ++ y there is more behind it
@@ -110,28 +108,29 @@ module _ (x y : List ℕ) (more : 0 < length y) where
     contents records.End r false is due there last =
         by_outcomes StepAnswer Steps (end_rules r s) _ _ _ _ (λ _. past_end _ _ (omega (arith, last refl, ends_within s early records.End r is due))) (λ why. refused why s.«at»)
 
-    one_record : (which : Record) (body : ℕ) → layout_of (get_or x s.«at» 0) ≡ Known which body →
-        Steps (record_step which body (drop s.«at» (x ++ y)) s) (record_step which body (drop s.«at» x) s)
-    one_record which body e =
+    one_record : (which : Record) → layout_of (get_or x s.«at» 0) ≡ Ok which →
+        Steps (record_step which (drop s.«at» (x ++ y)) s) (record_step which (drop s.«at» x) s)
+    one_record which e =
+        let body = body_of which in
         let left = drop s.«at» x in
         let long = length-drop s.«at» x in
         let longer = length-append left y in
-        rw (drop-append-le s.«at» x y inside, record_turn which body (left ++ y) s, record_turn which body left s)
+        rw (drop-append-le s.«at» x y inside, record_turn which (left ++ y) s, record_turn which left s)
         (by_outcomes StepAnswer Steps (due_rules which s) _ _ _ _ (λ due.
         choose (Steps _) (ltb body (length left)) _ _
         (λ whole.
         let h : body < length left = ltb-true _ _ whole in
         rw (lt-ltb body (length (left ++ y)) (omega arith), take-append-le (suc body) left y h, lt-ltb (suc body) (length (left ++ y)) (omega arith))
-        (contents which (take (suc body) left) _ (a_record x s body whole which e) due (omega (arith, is_whole x s body whole))
-        (λ last. let k : length left ≤ suc body = ltb-false _ _ last in omega (arith, is_whole x s body whole))))
+        (contents which (take (suc body) left) _ (a_record x s which whole e) due (omega (arith, is_whole x s which whole))
+        (λ last. let k : length left ≤ suc body = ltb-false _ _ last in omega (arith, is_whole x s which whole))))
         (λ less.
         let h : length left ≤ body = ltb-false _ _ less in
-        short _ (omega (arith, ends_within s early which _ (blank_record which _ body e) due, length-replicate {A = ℕ} body 0))))
+        short _ (omega (arith, ends_within s early which _ (blank_record which _ e) due, length-replicate {A = ℕ} body 0))))
         (λ why. refused why _))
 
-    layouts : (l : Layout) → layout_of (get_or x s.«at» 0) ≡ l → Steps (layout_step l (drop s.«at» (x ++ y)) s) (layout_step l (drop s.«at» x) s)
-    layouts (Known which body) e = one_record which body e
-    layouts (Refused why) e = refused why _
+    layouts : (l : Result Record Refusal) → layout_of (get_or x s.«at» 0) ≡ l → Steps (layout_step l (drop s.«at» (x ++ y)) s) (layout_step l (drop s.«at» x) s)
+    layouts (Ok which) e = one_record which e
+    layouts (Err why) e = refused why _
 
     steps : Steps (step_of (x ++ y) s) (step_of x s)
     unfolding step_of

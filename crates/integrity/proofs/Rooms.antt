@@ -9,11 +9,10 @@ use lib.Dec.{ltb}
 use borrow.Author.Tests.{ltb-true, ltb-false}
 use Rattle.arith.proofs.Choose.{by_test}
 use Rattle.refusal.specs.declared.Refusal.TheVariants.{NoRoom}
-use Rattle.records.specs.declared.Record.TheVariants as records
 use Rattle.place.specs.declared.Place.{Place}
 use Rattle.atlas_file.specs.declared.State.{State}
 use Rattle.records.specs.Records.{sheet_of, sheet_record, place_of}
-use Rattle.atlas_file.specs.Steps.{past_place, refused_step}
+use Rattle.atlas_file.specs.Steps.{past_place}
 use Rattle.atlas_file.specs.Reading.{Reading, refused_reading, start_of, read_from}
 use Rattle.integrity.specs.Integrity.{RoomEnough, RoomShort}
 use Rattle.records.proofs.SheetRecords.{sheet-as_long}
@@ -46,7 +45,7 @@ Short n b s other places = read_from n b (with_room s other) places ≡ refused_
 
 no_room : {b : List ℕ} {s : State} {ps : List Place} (n other : ℕ) (places : List Place) → Run b s ps → s.sheet_read ≡ true →
     s.«count» ≤ other → other < s.«count» + length ps → length ps < n → Short n b s other places
-unfolding Short refused_step
+unfolding Short
 no_room zero other places run read m f h = absurd (let w : ⊥ = omega arith in w)
 no_room (suc n) other places (ends r i at same) read m f h = absurd (let w : ⊥ = omega arith in w)
 no_room {b} {s} (suc n) other places (goes r rest i at few _ ok run) read m f h =

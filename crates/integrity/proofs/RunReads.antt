@@ -9,21 +9,20 @@ use lib.ListN.{length, get_or, take, drop, length-drop, length-append}
 use lib.Seq.{take_at, append_snoc}
 use lib.Dec.{ltb}
 use borrow.Author.Tests.{lt-ltb, le-ltb, eq-eqb}
+use Rattle.std.specs.Prelude.{Result, Ok}
+use Rattle.refusal.specs.declared.Refusal.{Refusal}
 use Rattle.refusal.specs.declared.Refusal.TheVariants.{Cut, NoRoom}
 use Rattle.refusal.specs.Rules.{◌else-refuse◌, all_hold}
 use Rattle.refusal.proofs.InOrder.{all_hold-good, hold_together}
 use Rattle.sheet.specs.Sheets.{sheet_rules}
 use Rattle.records.specs.declared.Record.{Record}
 use Rattle.records.specs.declared.Record.TheVariants as records
-use Rattle.records.specs.declared.Layout.{Layout}
-use Rattle.records.specs.declared.Layout.TheVariants.{Known}
 use Rattle.place.specs.declared.Place.{Place}
 use Rattle.atlas_file.specs.declared.State.{State}
 use Rattle.atlas_file.specs.declared.Found.TheVariants as found
-use Rattle.atlas_file.specs.declared.StepAnswer.{StepAnswer}
-use Rattle.records.specs.Records.{layout_of, IsRecord, sheet_of, place_of, end_of}
-use Rattle.place.specs.Places.{place_rules, blank_place}
-use Rattle.atlas_file.specs.Steps.{past_sheet, past_place, most_places, refused_step, refused_here, due_rules, end_rules, last_rules, sheet_step, place_step, end_step, content_step, record_step, layout_step, step_of}
+use Rattle.records.specs.Records.{layout_of, body_of, IsRecord, sheet_of, place_of, end_of}
+use Rattle.place.specs.Places.{place_rules}
+use Rattle.atlas_file.specs.Steps.{StepAnswer, past_sheet, past_place, most_places, refused_step, refused_here, due_rules, end_rules, last_rules, sheet_step, place_step, end_step, content_step, record_step, layout_step, step_of}
 use Rattle.atlas_file.specs.Reading.{accepted_reading, start_of, read_from, read_of}
 use Rattle.atlas_file.proofs.Views.{first_byte}
 use Rattle.atlas_file.proofs.Turns.{after_step, read_turn}
@@ -35,40 +34,40 @@ module _ (b : List ℕ) (s : State) (which : Record) (r rest : List ℕ) (i : Is
   abbrev left : List ℕ
   left = drop s.«at» b
 
-  layout_is : layout_of (get_or b s.«at» 0) ≡ Known which i.body
+  layout_is : layout_of (get_or b s.«at» 0) ≡ Ok which
   layout_is = ap layout_of (first_byte b r rest s.«at» at (omega (arith, i.whole))) ∙ i.layout
 
-  front : take (suc i.body) left ≡ r
-  front = ap (take (suc i.body)) at ∙ take_at r rest (suc i.body) i.whole
+  front : take (suc (body_of which)) left ≡ r
+  front = ap (take (suc (body_of which))) at ∙ take_at r rest (suc (body_of which)) i.whole
 
   left_length : length left ≡ length r + length rest
   left_length = ap length at ∙ length-append r rest
 
-  reaches : step_of b s ≡ record_step which i.body left s
+  reaches : step_of b s ≡ record_step which left s
   unfolding step_of
   reaches =
       let f = further which b r rest s.«at» i at in
       all_hold-good StepAnswer ((ltb s.«at» (length b) else-refuse Cut) ∷ []) _ (refused_here s) (rw (lt-ltb s.«at» (length b) (omega (arith, f.0, f.1))) refl)
-      ∙ ap (λ (l : Layout). layout_step l left s) layout_is
+      ∙ ap (λ (l : Result Record Refusal). layout_step l left s) layout_is
 
   -- that is due
   step_is : all_hold (due_rules which s) ≡ true → step_of b s ≡ content_step which r (ltb (length r) (length r + length rest)) s
   unfolding record_step
   step_is due =
       reaches
-      ∙ all_hold-good StepAnswer (due_rules which s ++ ((ltb i.body (length left) else-refuse Cut) ∷ [])) _ (refused_here s)
-      (hold_together (due_rules which s) _ due (rw (lt-ltb i.body (length left) (omega (arith, i.whole, left_length))) refl))
+      ∙ all_hold-good StepAnswer (due_rules which s ++ ((ltb (body_of which) (length left) else-refuse Cut) ∷ [])) _ (refused_here s)
+      (hold_together (due_rules which s) _ due (rw (lt-ltb (body_of which) (length left) (omega (arith, i.whole, left_length))) refl))
       ∙ (λ j. content_step which (front j) (ltb (sym i.whole j) (left_length j)) s)
 
 pub sheet-reads : (b : List ℕ) (s : State) (r rest : List ℕ) → IsRecord records.Sheet r → drop s.«at» b ≡ r ++ rest → s.sheet_read ≡ false →
     all_hold (sheet_rules (sheet_of r)) ≡ true →
-    step_of b s ≡ record { «found» = found.Sheet (sheet_of r); «place» = blank_place; «next» = past_sheet s r }
+    step_of b s ≡ Ok (record { «found» = found.Sheet (sheet_of r); «next» = past_sheet s r })
 unfolding due_rules content_step sheet_step
 sheet-reads b s r rest i at unread ok = step_is b s records.Sheet r rest i at (rw unread refl) ∙ all_hold-good StepAnswer (sheet_rules (sheet_of r)) _ (refused_here s) ok
 
 pub place-reads : (b : List ℕ) (s : State) (r rest : List ℕ) → IsRecord records.Place r → drop s.«at» b ≡ r ++ rest → s.sheet_read ≡ true →
     s.«count» < most_places → s.«count» < s.«room» → all_hold (place_rules s.«sheet» s.«count» s.last_id (place_of r)) ≡ true →
-    step_of b s ≡ record { «found» = found.Place; «place» = place_of r; «next» = past_place s r }
+    step_of b s ≡ Ok (record { «found» = found.Place (place_of r); «next» = past_place s r })
 unfolding due_rules content_step place_step
 place-reads b s r rest i at read few room ok =
     step_is b s records.Place r rest i at (rw (read, lt-ltb s.«count» most_places few, lt-ltb s.«count» s.«room» room) refl)
@@ -82,12 +81,12 @@ full_refuses b s r rest i at read few full =
     reaches b s records.Place r rest i at ∙ rw (read, lt-ltb s.«count» most_places few, le-ltb s.«count» s.«room» full) refl
 
 pub end_reads : (b : List ℕ) (s : State) (r : List ℕ) → IsRecord records.End r → drop s.«at» b ≡ r → s.sheet_read ≡ true → end_of r ≡ s.«count» →
-    step_of b s ≡ record { «found» = found.End (end_of r); «place» = blank_place; «next» = s }
+    step_of b s ≡ Ok (record { «found» = found.End (end_of r); «next» = s })
 unfolding due_rules content_step end_step
 end_reads b s r i at read same =
     step_is b s records.End r [] i (at ∙ sym (append-nil r)) (rw read refl)
     ∙ all_hold-good StepAnswer (end_rules r s) _ (refused_here s) (rw (eq-eqb (end_of r) s.«count» same) refl)
-    ∙ all_hold-good StepAnswer (last_rules (ltb (length r) (length r + 0))) _ (λ why. refused_step s why (s.«at» + length r)) (rw (le-ltb (length r) (length r + 0) (omega arith)) refl)
+    ∙ all_hold-good StepAnswer (last_rules (ltb (length r) (length r + 0))) _ (λ why. refused_step why (s.«at» + length r)) (rw (le-ltb (length r) (length r + 0) (omega arith)) refl)
 
 -- from a state on, behind the sheet, the file has the records of these places and the end
 pub data Run (b : List ℕ) : State → List Place → Type 0 where

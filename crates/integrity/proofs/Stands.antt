@@ -12,8 +12,7 @@ use Rattle.records.specs.Records.{IsRecord, place_of, sheet_of, sheet_record}
 use Rattle.records.proofs.PlaceRecords.{place-length}
 use Rattle.records.proofs.SheetRecords.{sheet-as_long}
 use Rattle.atlas_file.specs.declared.State.{State}
-use Rattle.atlas_file.specs.declared.StepAnswer.{StepAnswer}
-use Rattle.atlas_file.specs.Steps.{refused_step}
+use Rattle.atlas_file.specs.Steps.{StepAnswer}
 use Rattle.atlas_file.specs.Reading.{Reading, start_of, read_from, read_of}
 use Rattle.atlas_file.proofs.Views.{Stepped, refused, sheet, place, end, view}
 use Rattle.atlas_file.proofs.Turns.{after_step}
@@ -45,7 +44,6 @@ place-stands b room k e h =
 turn_places : (n : ℕ) (b : List ℕ) (s : State) (places : List Place) {r : StepAnswer} → Stepped b s r →
     ((t : State) (qs : List Place) → ((read_from n b t qs).reply.number ≡ 0 → ⊥) → (read_from n b t qs).places ≡ []) →
     ((after_step n b s places r).reply.number ≡ 0 → ⊥) → (after_step n b s places r).places ≡ []
-unfolding refused_step
 turn_places n b s places (refused other offset) on e = refl
 turn_places n b s places (sheet r rest i at unread ok) on e = on _ _ e
 turn_places n b s places (place r rest i at read few room ok) on e = on _ _ e

@@ -5,9 +5,10 @@
 use programs::FILE_SIZE;
 
 fn main(rt: HostRuntime) {
-    let mut file = [0u8; FILE_SIZE];
-    let length = streams::read_full(&mut rt.stdin(), &mut file);
-    let mut text = [0u8; 65536];
-    let end = programs::listing(&file[..length], &mut text);
-    streams::write_all(&mut rt.stdout(), &text[..end]);
+    streams::print_report_unchecked(
+        &mut rt.stdin(),
+        &mut rt.stdout(),
+        &mut [0u8; FILE_SIZE],
+        programs::listing,
+    );
 }

@@ -1,19 +1,19 @@
 -- A number that is written is read back, and four bytes that are read are written back. Assumes nothing.
-use mathlib.Core.Path.{◌≡◌, sym, ap, ◌∙◌}
+use mathlib.Core.Path.{◌≡◌, refl, sym, ap, ◌∙◌}
 use mathlib.Core.List.{List, [], ◌∷◌, ◌++◌}
-use Prim.Native.Nat.{ℕ, suc, ◌+◌, ◌*◌, ◌/◌, ◌%◌, ◌<◌, ◌≤◌}
+use Prim.Native.Nat.{ℕ, zero, suc, ◌+◌, ◌*◌, ◌<◌, ◌≤◌}
 use native.Mathlib.Omega.{arith}
-use native.Mathlib.Nat.{div-div-eq-div-mul, mod-eq_of_lt}
 use native.Mathlib.Numerals.{add-one, add-two, add-three}
 use lib.ListN.{get_or, length, take, drop, take-append-drop}
 use lib.Seq.{drop-cons, drop-drop}
+use Rattle.std.proofs.lemmas.Nat.{le_bytes_4, from_le_bytes-to_le_bytes_4}
 use Rattle.little_endian.specs.Numbers.{u32_at, i32_at, signed, unsigned, u32_bytes, Bytes, IsI32, IsU32}
 use Rattle.little_endian.specs.Laws.{U32Back, I32Back, U32Forth, I32Forth}
 use Rattle.little_endian.proofs.Bits.{signed-unsigned, unsigned_signed, unsigned-fits, signed-fits}
 
 pub u32_back : U32Back
 unfolding u32_bytes
-u32_back u rest h = rw (← (div-div-eq-div-mul u 65536 256), ← (div-div-eq-div-mul u 256 256)) (omega arith)
+u32_back u rest h = omega (arith, from_le_bytes-to_le_bytes_4 u h)
 
 pub i32_back : I32Back
 unfolding i32_at
@@ -27,19 +27,18 @@ pub i32_below : (b : List ℕ) (at : ℕ) → Bytes b → IsI32 (i32_at b at)
 unfolding i32_at
 i32_below b at h = signed-fits (u32_at b at) (u32_below b at h)
 
--- a number's digits of base 256
-last_digit : (a q : ℕ) → a < 256 → (a + 256 * q) % 256 ≡ a
-last_digit a q h = omega arith
+-- four bytes are those of the number that they give
+module _ (a b c d : ℕ) (ha : a < 256) (hb : b < 256) (hc : c < 256) (hd : d < 256) where
+  each : (i : ℕ) → get_or (a ∷ b ∷ c ∷ d ∷ []) i 0 < 256
+  each zero = ha
+  each (suc zero) = hb
+  each (suc (suc zero)) = hc
+  each (suc (suc (suc zero))) = hd
+  each (suc (suc (suc (suc i)))) = omega arith
 
-other-digits : (a q : ℕ) → a < 256 → (a + 256 * q) / 256 ≡ q
-other-digits a q h = omega arith
-
-digits : (a b c d : ℕ) → a < 256 → b < 256 → c < 256 → d < 256 → u32_bytes (a + 256 * b + 65536 * c + 16777216 * d) ≡ a ∷ b ∷ c ∷ d ∷ []
-unfolding u32_bytes
-digits a b c d ha hb hc hd =
-    let n = a + 256 * (b + 256 * (c + 256 * d)) in
-    let e : a + 256 * b + 65536 * c + 16777216 * d ≡ n = omega arith in
-    rw (e, ← (div-div-eq-div-mul n 65536 256), ← (div-div-eq-div-mul n 256 256)) (simp (last_digit, other-digits, mod-eq_of_lt))
+  digits : u32_bytes (a + 256 * b + 65536 * c + 16777216 * d) ≡ a ∷ b ∷ c ∷ d ∷ []
+  unfolding u32_bytes
+  digits = le_bytes_4 (a ∷ b ∷ c ∷ d ∷ []) _ refl each (omega arith)
 
 -- the four elements from `at`
 four : (b : List ℕ) (at : ℕ) → at + 4 ≤ length b → take 4 (drop at b) ≡ get_or b at 0 ∷ get_or b (at + 1) 0 ∷ get_or b (at + 2) 0 ∷ get_or b (at + 3) 0 ∷ []

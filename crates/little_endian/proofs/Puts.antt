@@ -1,12 +1,12 @@
 -- Lists put into a list one behind the other, as the loops that write do. Assumes nothing.
-use mathlib.Core.Path.{◌≡◌, sym, ◌∙◌}
+use mathlib.Core.Path.{◌≡◌, refl, sym, ◌∙◌}
 use mathlib.Core.List.{List, [], ◌∷◌, ◌++◌, append_assoc, append-nil}
-use Prim.Native.Nat.{ℕ, suc, ◌+◌, ◌≤◌, ◌<◌}
+use Prim.Native.Nat.{ℕ, suc, ◌+◌, ◌*◌, ◌≤◌, ◌<◌}
 use native.Mathlib.Nat.{add-zero, add_assoc}
 use native.Mathlib.Numerals.{add-one}
 use native.Mathlib.Omega.{arith}
 use lib.ListN.{get_or, length, take, drop, set, length-append, length-set, take-append-drop, drop_of_length-le}
-use lib.Seq.{take-length, sets-eq, length-take-le, take_at, drop_at, drop-drop, drop-cons}
+use lib.Seq.{sets-eq, length-take-le, take_at, drop_at, drop-drop, drop-cons}
 use Rattle.little_endian.specs.Numbers.{u32_bytes, numbers_bytes, put}
 
 pub put_none : (l : List ℕ) (at : ℕ) → put l at [] ≡ l
@@ -57,20 +57,23 @@ put_all l vs e = rw (drop_of_length-le l {i = 0 + length vs} (omega arith), appe
 pub put_behind : (l : List ℕ) (kind : ℕ) (vs : List ℕ) → length l ≡ suc (length vs) → put (set l 0 kind) 1 vs ≡ kind ∷ vs
 put_behind l kind vs e = copy_turn l (kind ∷ vs) 0 0 (omega arith) (omega arith) ∙ put_all l (kind ∷ vs) e
 
--- a record that is written: its kind byte, its numbers, and what else its body has
-module _ (l m us vs : List ℕ) (kind : ℕ) (numbers : m ≡ put (set l 0 kind) 1 (numbers_bytes us)) (same : us ≡ vs) where
-  pub written : length l ≡ suc (length (numbers_bytes vs)) → m ≡ kind ∷ numbers_bytes vs
-  written e = rw (numbers, same) (put_behind l kind (numbers_bytes vs) e)
+-- a number takes four bytes
+pub numbers_length : (us : List ℕ) → length (numbers_bytes us) ≡ 4 * length us
+unfolding numbers_bytes u32_bytes
+numbers_length [] = refl
+numbers_length (u ∷ us) = omega (arith, numbers_length us)
 
-  pub written_before : (n rest : List ℕ) (at : ℕ) → n ≡ put m at rest → at ≡ 1 + length (numbers_bytes vs) →
-      length l ≡ suc (length (numbers_bytes vs ++ rest)) → n ≡ kind ∷ (numbers_bytes vs ++ rest)
-  written_before n rest at f a e =
-      rw (f, a, numbers, same, ← (put_append (set l 0 kind) 1 (numbers_bytes vs) (omega (arith, length-set l 0 kind, length-append (numbers_bytes vs) rest)) rest))
-      (put_behind l kind (numbers_bytes vs ++ rest) e)
+-- a record that is written: its kind byte and its numbers, and what else its body has
+pub written : (l us : List ℕ) (kind : ℕ) → length l ≡ 1 + 4 * length us → put (set l 0 kind) 1 (numbers_bytes us) ≡ kind ∷ numbers_bytes us
+written l us kind e = put_behind l kind (numbers_bytes us) (omega (arith, numbers_length us))
 
--- what `bytes::copy` leaves in a list as long as the one that is copied
-pub copied : (s d : List ℕ) → length d ≡ length s → take (length s) s ++ drop (length s) d ≡ s
-copied s d e = rw (take-length s, drop_of_length-le d {i = length s} (omega arith)) (append-nil s)
+pub written_before : (l us rest : List ℕ) (kind at : ℕ) → at ≡ 1 + 4 * length us → length l ≡ at + length rest →
+    put (put (set l 0 kind) 1 (numbers_bytes us)) at rest ≡ kind ∷ (numbers_bytes us ++ rest)
+written_before l us rest kind at a e =
+    let k = numbers_length us in
+    let end : at ≡ 1 + length (numbers_bytes us) = omega arith in
+    rw (end, ← (put_append (set l 0 kind) 1 (numbers_bytes us) (omega (arith, length-set l 0 kind)) rest))
+    (put_behind l kind (numbers_bytes us ++ rest) (omega (arith, length-append (numbers_bytes us) rest)))
 
 -- a lent part that holds vs afterwards
 pub put_part : (l : List ℕ) (at k : ℕ) (vs : List ℕ) → k ≡ length vs → take at l ++ (vs ++ drop k (drop at l)) ≡ put l at vs

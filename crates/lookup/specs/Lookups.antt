@@ -1,17 +1,15 @@
 -- Document 01, 'The atlas file' and 'Taps', for callers with a file's bytes: the place at a position of the file, and the place nearest to a tap.
-use Rattle.std.specs.Prelude.{ℕ, cond, List, [], ◌∷◌, length, get_or, eqb, ltb, ℤ, pos, nat_abs}
-use Rattle.refusal.specs.declared.Refusal.{Refusal}
+use Rattle.std.specs.Prelude.{ℕ, cond, List, [], ◌∷◌, length, get_or, eqb, ltb, ℤ, pos, nat_abs, Result, Ok, Err}
 use Rattle.refusal.specs.declared.Refusal.TheVariants.{OutOfRange}
 use Rattle.refusal.specs.Numbers.{number_of}
 use Rattle.refusal.specs.Rules.{◌else-refuse◌, outcome}
 use Rattle.place.specs.declared.Place.{Place}
 use Rattle.place.specs.Places.{blank_place}
 use Rattle.nearest.specs.Taps.{nearest_reply}
+use Rattle.atlas_file.specs.declared.reading.FileRefusal.{FileRefusal}
 use Rattle.atlas_file.specs.Steps.{most_places}
 use Rattle.atlas_file.specs.Reading.{read_reply, places_read}
-use Rattle.lookup.specs.declared.Lookup.{Lookup}
-use Rattle.lookup.specs.declared.Lookup.TheVariants as lookup
-use Rattle.lookup.specs.declared.LookupAnswer.{LookupAnswer}
+use Rattle.lookup.specs.declared.Found.{Found}
 
 -- What comes back of a lookup: the number of the refusal (0 where a place is found), the offset, the place's position in the file and the place.
 pub record LookupReply : Type 0 where
@@ -29,19 +27,9 @@ abbrev pub refused_reply : (number offset : ℕ) → LookupReply
 refused_reply n offset = record { number = n; offset = offset; position = 0; place = blank_place }
 
 -- the number and the values that an answer stands for
-abbrev pub reply_with : Lookup → Place → LookupReply
-reply_with (lookup.Place k) p = found_reply k p
-reply_with (lookup.Refused why offset) p = record { number = number_of why; offset = offset; position = 0; place = p }
-
-abbrev pub lookup_reply_of : LookupAnswer → LookupReply
-lookup_reply_of a = reply_with a.«found» a.«place»
-
--- the two answers: a place, or a refusal with no place
-unfoldable pub found_answer : (position : ℕ) → Place → LookupAnswer
-found_answer k p = record { «found» = lookup.Place k; «place» = p }
-
-unfoldable pub refused_answer : Refusal → (offset : ℕ) → LookupAnswer
-refused_answer why offset = record { «found» = lookup.Refused why offset; «place» = blank_place }
+abbrev pub lookup_reply_of : Result Found FileRefusal → LookupReply
+lookup_reply_of (Ok found) = found_reply found.«position» found.«place»
+lookup_reply_of (Err why) = refused_reply (number_of why.«refusal») why.«offset»
 
 -- what is asked of the places of a file, once the file is accepted; else its refusal and the offset
 abbrev pub in_file : (b : List ℕ) → (List Place → LookupReply) → LookupReply

@@ -2,104 +2,51 @@
 
 #![tactic(auto)]
 
-ghost use Rattle.std.specs.Prelude.{◌≡◌, ◌≤◌, length, take};
-ghost use Rattle.lookup.specs.Lookups.{lookup_reply_of, found_answer, refused_answer, place_at_reply, nearest_among, nearest_place_reply};
+ghost use Rattle.std.specs.Prelude.{◌≡◌};
+ghost use Rattle.lookup.specs.Lookups.{lookup_reply_of, place_at_reply, nearest_among, nearest_place_reply};
 
-use atlas_file::{FileAnswer, MOST_PLACES};
-use nearest::NearestAnswer;
+use atlas::Places;
+use atlas_file::{FileRefusal, MOST_PLACES};
 use place::Place;
 use refusal::Refusal;
 
-// What was found: the place's position in the file, counted from 0; or the refusal, with its offset if it is the file that is refused.
+// A place that was found, and its position in the file, counted from 0.
 #[derive(Clone, Copy)]
-pub enum Lookup {
-    Place { position: usize },
-    Refused { refusal: Refusal, offset: usize },
-}
-
-// What a lookup answers.
-#[derive(Clone, Copy)]
-pub struct LookupAnswer {
-    pub found: Lookup,
-    // The place that was found, or zeros.
+pub struct Found {
+    pub position: usize,
     pub place: Place,
 }
 
-// The place at a position of a file: the file's own refusals, then 12 if it has no place there.
-pub fn place_at(bytes: &[u8], position: usize) -> LookupAnswer
+// The place at a position of a file: the file's own refusals, then 12 if it has no place there. A refusal that is not the file's has offset 0.
+pub fn place_at(bytes: &[u8], position: usize) -> Result<Found, FileRefusal>
     ensures { lookup_reply_of result ≡ place_at_reply bytes.now position }
 {
-    let answer = atlas_file::read_through(bytes, MOST_PLACES);
-    match answer {
-        FileAnswer::Atlas { count, sheet } => {
-            if count <= position {
-                return refused(Refusal::OutOfRange, 0);
-            }
-            let first = records::sheet_record_length(sheet);
-            let place = atlas::place_of_unchecked(bytes, first, position);
-            found(position, place)
-        }
-        FileAnswer::Refused { refusal, offset } => refused(refusal, offset),
+    let places = Places::read(bytes)?;
+    if places.count <= position {
+        return Err(FileRefusal::from(Refusal::OutOfRange));
     }
+    Ok(Found {
+        position,
+        place: places.place_unchecked(position),
+    })
 }
 
 // The place of a file that is nearest to the tap at x, y: the file's own refusals, then 12 and 13 as of a tap.
-pub fn nearest_place(bytes: &[u8], x: i64, y: i64, reach: i64) -> LookupAnswer
+pub fn nearest_place(bytes: &[u8], x: i64, y: i64, reach: i64) -> Result<Found, FileRefusal>
     ensures { lookup_reply_of result ≡ nearest_place_reply bytes.now x y reach }
 {
-    let mut table = blank_table();
-    let answer = atlas::read(bytes, &mut table);
-    match answer {
-        FileAnswer::Atlas { count, sheet: _ } => nearest_among(&table, count, x, y, reach),
-        FileAnswer::Refused { refusal, offset } => refused(refusal, offset),
-    }
+    let mut table = [place::blank(); MOST_PLACES];
+    let atlas = atlas::read(bytes, &mut table)?;
+    nearest_among(&table[..atlas.count], x, y, reach)
 }
 
-// The place nearest to a tap among the first `count` of a table.
-fn nearest_among(table: &[Place], count: usize, x: i64, y: i64, reach: i64) -> LookupAnswer
-    requires { count ≤ length table.now }
-    ensures { lookup_reply_of result ≡ nearest_among x y reach (take count table.now) }
+// The place nearest to a tap among some places.
+fn nearest_among(places: &[Place], x: i64, y: i64, reach: i64) -> Result<Found, FileRefusal>
+    ensures { lookup_reply_of result ≡ nearest_among x y reach places.now }
 {
-    let answer = nearest::nearest(&table[..count], x, y, reach);
-    match answer {
-        NearestAnswer::At { position } => {
-            let place = table::place_at_unchecked(table, position);
-            found(position, place)
-        }
-        NearestAnswer::Refused(r) => refused(r, 0),
-    }
-}
-
-// A table for as many places as a file can have; what it holds does not matter.
-fn blank_table() -> [Place; 1000]
-    ensures { length result ≡ 1000 }
-{
-    let place = place::blank();
-    [place; 1000]
-}
-
-// A place that was found, with its position.
-fn found(position: usize, place: Place) -> LookupAnswer
-    ensures { result ≡ found_answer position place }
-{
-    let found = Lookup::Place { position: position };
-    LookupAnswer {
-        found: found,
-        place: place,
-    }
-}
-
-// A refusal: no place.
-fn refused(refusal: Refusal, offset: usize) -> LookupAnswer
-    ensures { result ≡ refused_answer refusal offset }
-{
-    let place = place::blank();
-    let found = Lookup::Refused {
-        refusal: refusal,
-        offset: offset,
-    };
-    LookupAnswer {
-        found: found,
-        place: place,
-    }
+    let position = nearest::nearest(places, x, y, reach)?;
+    Ok(Found {
+        position,
+        place: places[position],
+    })
 }

@@ -1,33 +1,35 @@
 -- Two answers never share a reply, and what is lent holds afterwards. Assumes nothing.
 use mathlib.Core.Bool.{Bool, true, false, cond}
 use mathlib.Core.List.{List, ◌++◌}
-use mathlib.Core.Path.{◌≡◌, refl, sym, ap}
+use mathlib.Core.Path.{◌≡◌, refl, sym, ap, ◌∙◌}
 use Prim.Native.Nat.{ℕ}
 use borrow.Author.Tests.{eqb-false}
 use lib.Dec.{eqb}
 use lib.IntN.{ℤ}
 use lib.ListN.{length, drop}
-use Rattle.refusal.specs.Numbers.{number_of}
+use Rattle.refusal.specs.Numbers.{number_of, Reply, refused}
 use Rattle.refusal.specs.Rules.{Rule, all_hold}
-use Rattle.refusal.proofs.Distinct.{distinct_numbers, no_number_zero}
-use Rattle.refusal.proofs.InOrder.{by_outcome, all_hold-good}
+use Rattle.refusal.proofs.Distinct.{distinct_numbers, no_number_zero, same_values}
+use Rattle.refusal.proofs.InOrder.{by_outcome, all_hold-good, accepted-all_hold, refused-bad}
 use Rattle.place.specs.declared.Place.{Place}
 use Rattle.reach.specs.Lists.{positions_in_reach}
-use Rattle.within_reach.specs.Lists.{in_reach_rules, listed_after}
+use Rattle.within_reach.specs.Lists.{in_reach_rules, listed_after, list_reply_of}
 use Rattle.atlas_file.specs.Steps.{most_places}
 use Rattle.atlas_file.specs.Reading.{read_reply, places_read}
-use Rattle.lookup_all.specs.declared.PositionsAnswer.TheVariants.{Listed, Refused}
-use Rattle.lookup_all.specs.Positions.{PositionsReply, refused_reply, positions_among, positions_reply, positions_after}
+use Rattle.std.specs.Prelude.{Result, Ok, Err}
+use Rattle.refusal.specs.declared.Refusal.{Refusal}
+use Rattle.atlas_file.specs.declared.reading.FileRefusal.{FileRefusal}
+use Rattle.lookup_all.specs.Positions.{PositionsReply, listed_reply, refused_reply, positions_reply_of, positions_among, positions_list_reply, positions_reply, positions_after}
 use Rattle.lookup_all.specs.Laws.{DistinctPositionsReplies, ListedThenBefore, RefusedUntouched}
 
 number-of : {p q : PositionsReply} → p ≡ q → p.number ≡ q.number
 number-of = ap (λ (x : PositionsReply). x.number)
 
 pub distinct_positions_replies : DistinctPositionsReplies
-distinct_positions_replies (Listed j) (Listed k) e = λ i. Listed (e i).count
-distinct_positions_replies (Listed j) (Refused r n) e = absurd (no_number_zero r (sym (number-of e)))
-distinct_positions_replies (Refused r n) (Listed k) e = absurd (no_number_zero r (number-of e))
-distinct_positions_replies (Refused r n) (Refused s m) e = λ i. Refused (distinct_numbers r s (number-of e) i) (e i).offset
+distinct_positions_replies (Ok j) (Ok k) e = λ i. Ok (e i).count
+distinct_positions_replies (Ok j) (Err r) e = absurd (no_number_zero r.refusal (sym (number-of e)))
+distinct_positions_replies (Err r) (Ok k) e = absurd (no_number_zero r.refusal (number-of e))
+distinct_positions_replies (Err r) (Err s) e = λ i. Err (record { refusal = distinct_numbers r.refusal s.refusal (number-of e) i; offset = (e i).offset })
 
 -- by the places of an accepted file
 module _ (ps : List Place) (before : List ℕ) (x y reach : ℤ) where
@@ -73,3 +75,20 @@ listed_then_before file before x y reach = listed_by file before x y reach (eqb 
 pub refused-untouched : RefusedUntouched
 unfolding positions_reply positions_after
 refused-untouched file before x y reach = untouched_by file before x y reach (eqb (read_reply file most_places).number 0)
+
+-- what a list comes to, where a refusal is given an offset
+abbrev pub beside_the_file : Result ℕ Refusal → Result ℕ FileRefusal
+beside_the_file (Ok n) = Ok n
+beside_the_file (Err r) = Err (record { refusal = r; offset = 0 })
+
+pub among_is : (ps : List Place) (x y reach : ℤ) (room : ℕ) (r : Result ℕ Refusal) → list_reply_of r ≡ positions_list_reply ps x y reach room →
+    positions_reply_of (beside_the_file r) ≡ positions_among ps x y reach room
+unfolding positions_list_reply positions_among
+among_is ps x y reach room (Ok n) e =
+    let rules = in_reach_rules (positions_in_reach ps x y reach) x y reach room in
+    let all = accepted-all_hold 1 rules _ _ e in
+    let same = same_values _ _ (e ∙ all_hold-good Reply rules _ (refused 1) all) in
+    let count : n ≡ length (positions_in_reach ps x y reach) = cc in
+    ap listed_reply count ∙ sym (all_hold-good PositionsReply rules _ (λ why. refused_reply (number_of why) 0) all)
+among_is ps x y reach room (Err r) e =
+    sym (refused-bad PositionsReply 1 (in_reach_rules (positions_in_reach ps x y reach) x y reach room) _ _ (λ why. refused_reply (number_of why) 0) r e)

@@ -4,9 +4,8 @@ use mathlib.Core.List.Memᴰ
 use mathlib.Core.List.{List, [], ◌∷◌, Memᴰ}
 use mathlib.Core.Logic.{◌⊎◌, inl, inr, ⊎_elim}
 use mathlib.Core.Path.{◌≡◌, refl, sym}
+use Rattle.std.specs.Prelude.{Option, Some}
 use Rattle.nearest.specs.declared.Candidate.{Candidate}
-use Rattle.nearest.specs.declared.Best.{Best}
-use Rattle.nearest.specs.declared.Best.TheVariants.{Found}
 use Rattle.nearest.specs.Taps.{is_before, better, best_of}
 use Rattle.nearest.proofs.Order.{before_transitive, not_after}
 
@@ -19,19 +18,19 @@ not_after_trans a b c (inl e) h = rw e h
 not_after_trans a b c (inr e) (inl f) = inr (rw f at e)
 not_after_trans a b c (inr e) (inr f) = inr (before_transitive a b c e f)
 
-pub record FirstOf (best : Best) (cs : List Candidate) : Type 0 where
+pub record FirstOf (best : Option Candidate) (cs : List Candidate) : Type 0 where
   pub found : Candidate
-  pub is : best ≡ Found found
+  pub is : best ≡ Some found
   pub member : Memᴰ found cs
   pub first : (c : Candidate) → Memᴰ c cs → NotAfter found c
 
-pub first_of : (b : Candidate) (cs : List Candidate) → FirstOf (best_of (Found b) cs) (b ∷ cs)
+pub first_of : (b : Candidate) (cs : List Candidate) → FirstOf (best_of (Some b) cs) (b ∷ cs)
 unfolding best_of better
 first_of b [] = record { found = b; is = refl; member = Memᴰ.head refl; first = λ c m. inl (sym (Memᴰ.eq_of_singleton m)) }
 first_of b (c ∷ cs) = by_test (first_of c cs) (first_of b cs) (is_before c b) refl
   where
-    by_test : FirstOf (best_of (Found c) cs) (c ∷ cs) → FirstOf (best_of (Found b) cs) (b ∷ cs) → (t : Bool) → is_before c b ≡ t →
-        FirstOf (best_of (cond t (Found c) (Found b)) cs) (b ∷ c ∷ cs)
+    by_test : FirstOf (best_of (Some c) cs) (c ∷ cs) → FirstOf (best_of (Some b) cs) (b ∷ cs) → (t : Bool) → is_before c b ≡ t →
+        FirstOf (best_of (cond t (Some c) (Some b)) cs) (b ∷ c ∷ cs)
     by_test f _ true e = record {
       found = f.found;
       is = f.is;

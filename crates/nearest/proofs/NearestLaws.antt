@@ -15,9 +15,9 @@ use Rattle.arith.proofs.Choose.{choose}
 use Rattle.refusal.specs.declared.Refusal.TheVariants.{OutOfRange, NothingInReach}
 use Rattle.refusal.specs.Numbers.{Reply, accepted, refused}
 use Rattle.refusal.proofs.Distinct.{number-of, same_values, accepted-or_refused}
+use Rattle.std.specs.Prelude.{None, Some}
 use Rattle.place.specs.declared.Place.{Place}
 use Rattle.nearest.specs.declared.Candidate.{Candidate}
-use Rattle.nearest.specs.declared.Best.TheVariants.{Nothing, Found}
 use Rattle.nearest.specs.Taps.{tap_in_range, squared, within_reach, better, best_of, best_reply, nearest_reply}
 use Rattle.nearest.specs.Laws.{squared_distance_at, candidate_of, IsNearest, NearestIsLeast, LeastIsNearest, NoneInReach, RefusedNoneInReach, NoneInReachRefused}
 use Rattle.nearest.proofs.Order.{nearer_before, not_both_before}
@@ -53,7 +53,7 @@ module _ (t : List Place) (x y reach : ℤ) where
         (near_or_far j);
   }
 
-  is_nearest : (c : Candidate) (cs : List Candidate) → within_reach t x y reach ≡ c ∷ cs → (o : FirstOf (best_of (Found c) cs) (c ∷ cs)) → IsNearest t x y reach o.found.«position»
+  is_nearest : (c : Candidate) (cs : List Candidate) → within_reach t x y reach ≡ c ∷ cs → (o : FirstOf (best_of (Some c) cs) (c ∷ cs)) → IsNearest t x y reach o.found.«position»
   unfolding within_reach
   is_nearest c cs e o =
       let r = reached x y (squared reach) 0 t o.found (rw e o.member) in
@@ -66,7 +66,7 @@ module _ (t : List Place) (x y reach : ℤ) where
   unfolding nearest_reply best_of better
   by_reply P out none found = choose P (tap_in_range x y reach) _ _ (λ _. by_candidates (within_reach t x y reach) refl) out
     where
-      by_candidates : (cs : List Candidate) → within_reach t x y reach ≡ cs → P (best_reply (best_of Nothing cs))
+      by_candidates : (cs : List Candidate) → within_reach t x y reach ≡ cs → P (best_reply (best_of None cs))
       by_candidates [] e = none (none_in_reach e)
       by_candidates (c ∷ cs) e = let o = first_of c cs in rw o.is (found _ (is_nearest c cs e o))
 

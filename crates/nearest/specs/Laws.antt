@@ -1,16 +1,16 @@
 -- What holds of the order and of the nearest place. Each law is proved in proofs/, in the file that its comment names.
-use Rattle.std.specs.Prelude.{true, false, List, [], ◌∷◌, ◌⊎◌, ◌≡◌, ℕ, ◌≤◌, ◌<◌, ℤ, pos, get_or, length}
+use Rattle.std.specs.Prelude.{Result, true, false, List, [], ◌∷◌, ◌⊎◌, ◌≡◌, ℕ, ◌≤◌, ◌<◌, ℤ, pos, get_or, length}
+use Rattle.refusal.specs.declared.Refusal.{Refusal}
 use Rattle.refusal.specs.declared.Refusal.TheVariants.{NothingInReach}
 use Rattle.refusal.specs.Numbers.{accepted, refused}
 use Rattle.place.specs.declared.Place.{Place}
 use Rattle.place.specs.Places.{blank_place}
 use Rattle.nearest.specs.declared.Candidate.{Candidate}
-use Rattle.nearest.specs.declared.NearestAnswer.{NearestAnswer}
 use Rattle.nearest.specs.Taps.{tap_in_range, squared, squared_distance, candidate_at, is_before, nearest_reply, nearest_reply_of}
 
 -- two answers never share a number and values, so that the contract fixes the answer (Answers)
 abbrev pub DistinctNearestReplies : Type 0
-DistinctNearestReplies = (a b : NearestAnswer) → nearest_reply_of a ≡ nearest_reply_of b → a ≡ b
+DistinctNearestReplies = (a b : Result ℕ Refusal) → nearest_reply_of a ≡ nearest_reply_of b → a ≡ b
 
 -- is_before is a strict order: of two candidates not both are before the other, so none is before itself; it is transitive; and of two at different positions one is before the other (Order)
 abbrev pub NotBothBefore : Type 0

@@ -5,10 +5,10 @@
 
 #![tactic(auto)]
 
-ghost use Rattle.std.specs.Prelude.{◌≡◌, [], ◌∷◌, pos};
+ghost use Rattle.std.specs.Prelude.{◌≡◌, pos, None, is_ok, IfOk, IfErr};
 ghost use Rattle.arith.specs.Bounds.{Size};
-ghost use Rattle.nearest.specs.Taps.{tap_limit, tap_in_range, squared, squared_distance, candidate_at, is_before, within_reach_from, is_better, best_of, best_reply, nearest_reply, difference_limit, usual_reach, nearest_reply_of};
-ghost use Rattle.nearest.specs.declared.Best.TheVariants.{Nothing};
+ghost use Rattle.refusal.specs.declared.Refusal.TheVariants.{OutOfRange};
+ghost use Rattle.nearest.specs.Taps.{tap_limit, tap_in_range, squared, squared_distance, candidate_at, is_before, is_within_reach, within_reach_from, is_better, best_of, nearest_reply, difference_limit, usual_reach, nearest_reply_of};
 
 use place::Place;
 use refusal::Refusal;
@@ -22,8 +22,8 @@ const TAP_LIMIT: u32 = 536870912;
 // A reach is from 0 to this.
 const REACH_LIMIT: i64 = 1048576;
 
-// A place by what the order compares: its squared distance from the tap, its id, and its position in the table.
-#[derive(Clone, Copy)]
+// A place by what the order compares, in its order: squared distance from the tap, then id, then position in the table.
+#[derive(Clone, Copy, PartialEq, Eq, PartialOrd, Ord)]
 pub struct Candidate {
     pub squared_distance: u64,
     pub id: u32,
@@ -31,47 +31,31 @@ pub struct Candidate {
 }
 
 // The order: whether a comes before b, by squared distance, then id, then position.
+#[tactic(auto, unfolding(crate::specs::Taps::is_before))]
 pub fn is_before(a: Candidate, b: Candidate) -> bool
     ensures { result ≡ is_before a b }
 {
-    let by_position = a.position < b.position;
-    let by_id = (a.id < b.id) | ((a.id == b.id) & by_position);
-    (a.squared_distance < b.squared_distance) | ((a.squared_distance == b.squared_distance) & by_id)
-}
-
-// What nearest answers: the position in the table of the nearest place, counted from 0, or why there is none.
-#[derive(Clone, Copy)]
-pub enum NearestAnswer {
-    At { position: usize },
-    Refused(Refusal),
+    a < b
 }
 
 // The place of a table that is nearest to the tap at x, y: its position, counted from 0. Refused with 12 if a coordinate or the reach is out
 // of range, then 13 if no place is within reach.
-pub fn nearest(table: &[Place], x: i64, y: i64, reach: i64) -> NearestAnswer
+#[tactic(auto, unfolding(crate::specs::Taps::nearest_reply, crate::specs::Taps::within_reach))]
+pub fn nearest(table: &[Place], x: i64, y: i64, reach: i64) -> Result<usize, Refusal>
     ensures { nearest_reply_of result ≡ nearest_reply table.now x y reach }
 {
-    if tap_in_range(x, y, reach) {
-        let squared_reach = square_unchecked(reach);
-        let best = best_of(table, x, y, squared_reach);
-        answer_of(best)
-    } else {
-        NearestAnswer::Refused(Refusal::OutOfRange)
-    }
+    let tap = Tap::new(x, y, reach)?;
+    let Some(nearest) = tap.best_of(table) else {
+        return Err(Refusal::NothingInReach);
+    };
+    Ok(nearest.position)
 }
 
 // The same for a tap without a reach.
-pub fn nearest_in_usual_reach(table: &[Place], x: i64, y: i64) -> NearestAnswer
+pub fn nearest_in_usual_reach(table: &[Place], x: i64, y: i64) -> Result<usize, Refusal>
     ensures { nearest_reply_of result ≡ nearest_reply table.now x y usual_reach }
 {
     nearest(table, x, y, USUAL_REACH)
-}
-
-// The first by `is_before` of the places that were looked at and are within reach.
-#[derive(Clone, Copy)]
-enum Best {
-    Nothing,
-    Found(Candidate),
 }
 
 // Whether a tap's coordinates and its reach are within their limits.
@@ -91,68 +75,84 @@ pub fn square_unchecked(a: i64) -> u64
     (a * a) as u64
 }
 
-// The squared distance of a place from the tap at x, y. It may pass 2^63: an i64 would wrap.
-fn squared_distance(place: Place, x: i64, y: i64) -> u64
-    requires size { Size (pos tap_limit) x }
-    requires size_2 { Size (pos tap_limit) y }
-    ensures { result ≡ squared_distance x y place }
-{
-    square_unchecked(place.x as i64 - x) + square_unchecked(place.y as i64 - y)
+// A tap in range, with the square of its reach.
+#[derive(Clone, Copy)]
+pub struct Tap {
+    pub x: i64,
+    pub y: i64,
+    pub squared_reach: u64,
+    ghost x_in_range: { Size (pos tap_limit) x },
+    ghost y_in_range: { Size (pos tap_limit) y },
 }
 
-// A place as a candidate, for a tap in range; not offered to callers.
-pub fn candidate_at_unchecked(place: Place, position: usize, x: i64, y: i64) -> Candidate
-    requires size { Size (pos tap_limit) x }
-    requires size_2 { Size (pos tap_limit) y }
-    ensures { result ≡ candidate_at x y place position }
-{
-    Candidate {
-        squared_distance: squared_distance(place, x, y),
-        id: place.id,
-        position: position,
-    }
-}
-
-// The best of a table's places within reach, for a tap in range.
-fn best_of(table: &[Place], x: i64, y: i64, squared_reach: u64) -> Best
-    requires { Size (pos tap_limit) x × Size (pos tap_limit) y }
-    ensures { result ≡ best_of Nothing (within_reach_from 0 table.now x y squared_reach) }
-{
-    let mut best = Best::Nothing;
-    let mut k = 0;
-    while k < table.len() {
-        let place = table::place_at_unchecked(table, k);
-        let candidate = candidate_at_unchecked(place, k, x, y);
-        if is_better(best, candidate, squared_reach) {
-            best = Best::Found(candidate);
+impl Tap {
+    // Refused with 12 if a coordinate or the reach is out of range.
+    pub fn new(x: i64, y: i64, reach: i64) -> Result<Self, Refusal>
+        ensures in_range { is_ok result ≡ tap_in_range x y reach }
+        ensures tap { IfOk result (λ tap. (tap.x ≡ x) × (tap.y ≡ y) × (tap.squared_reach ≡ squared reach)) }
+        ensures refused { IfErr result (λ refusal. refusal ≡ OutOfRange) }
+    {
+        if !tap_in_range(x, y, reach) {
+            return Err(Refusal::OutOfRange);
         }
-        k += 1;
+        let squared_reach = square_unchecked(reach);
+        Ok(Tap {
+            x,
+            y,
+            squared_reach,
+        })
     }
-    best
-}
 
-// Whether a candidate is within reach and comes before the best so far.
-fn is_better(best: Best, candidate: Candidate, squared_reach: u64) -> bool
-    ensures { result ≡ is_better best candidate squared_reach }
-{
-    if candidate.squared_distance <= squared_reach {
+    // The squared distance of a place. It may pass 2^63: an i64 would wrap.
+    fn squared_distance(self, place: Place) -> u64
+        ensures { result ≡ squared_distance self.x self.y place }
+    {
+        square_unchecked(place.x as i64 - self.x) + square_unchecked(place.y as i64 - self.y)
+    }
+
+    // A place as a candidate.
+    pub fn candidate(self, place: Place, position: usize) -> Candidate
+        ensures { result ≡ candidate_at self.x self.y place position }
+    {
+        Candidate {
+            squared_distance: self.squared_distance(place),
+            id: place.id,
+            position,
+        }
+    }
+
+    // Whether a place is within reach.
+    pub fn reaches(self, place: Place) -> bool
+        ensures { result ≡ is_within_reach self.x self.y self.squared_reach place }
+    {
+        self.squared_distance(place) <= self.squared_reach
+    }
+
+    // The first by `is_before` of a table's places within reach.
+    fn best_of(self, table: &[Place]) -> Option<Candidate>
+        ensures { result ≡ best_of None (within_reach_from 0 table.now self.x self.y self.squared_reach) }
+    {
+        let mut best = None;
+        for (position, place) in table.iter().enumerate() {
+            let candidate = self.candidate(*place, position);
+            if self.is_better(best, candidate) {
+                best = Some(candidate);
+            }
+        }
+        best
+    }
+
+    // Whether a candidate is within reach and comes before the best so far.
+    #[tactic(auto, unfolding(crate::specs::Taps::is_better))]
+    fn is_better(self, best: Option<Candidate>, candidate: Candidate) -> bool
+        ensures { result ≡ is_better best candidate self.squared_reach }
+    {
+        if self.squared_reach < candidate.squared_distance {
+            return false;
+        }
         match best {
-            Best::Nothing => true,
-            Best::Found(b) => is_before(candidate, b),
+            None => true,
+            Some(first) => is_before(candidate, first),
         }
-    } else {
-        false
-    }
-}
-
-// What the best of all places comes to.
-fn answer_of(best: Best) -> NearestAnswer
-    ensures { nearest_reply_of result ≡ best_reply best }
-{
-    match best {
-        Best::Nothing => NearestAnswer::Refused(Refusal::NothingInReach),
-        Best::Found(c) => NearestAnswer::At {
-            position: c.position,
-        },
     }
 }

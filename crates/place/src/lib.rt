@@ -1,21 +1,19 @@
 // A place of an atlas: what it is, its name, and when it may stand in a file (document 01, 'The atlas file', and 6, 7, 8 and 14 of
 // 'Numbers that come back').
-//
-// A function whose name ends in _unchecked is not offered to callers, as in trig.
 
 #![tactic(auto)]
 
-ghost use Rattle.std.specs.Prelude.{◌≡◌, true, []};
+ghost use Rattle.std.specs.Prelude.{◌≡◌, []};
 ghost use Rattle.refusal.specs.Numbers.{accepted};
 ghost use Rattle.refusal.specs.Rules.{in_order};
-ghost use Rattle.sheet.specs.Sheets.{passes_checks, reply_of};
+ghost use Rattle.sheet.specs.Sheets.{reply_of};
 ghost use Rattle.conic.specs.Conic.{map_reply_of};
 ghost use Rattle.place.specs.Names.{is_printable, is_name};
 ghost use Rattle.place.specs.Places.{blank_place, place_rules_at, place_reply};
 
-use conic::MapAnswer;
+use conic::MapPoint;
 use refusal::Refusal;
-use sheet::{Sheet, Verdict};
+use sheet::{CheckedSheet, Sheet};
 
 // The bytes of a name.
 pub const NAME_LENGTH: usize = 16;
@@ -50,45 +48,52 @@ pub fn blank() -> Place
 
 // Whether a place may follow `count` places, the last of which has the id `last_id`, on a sheet: 6 if its id is not above the last, 7 if
 // it is out of range or off the sheet (or the sheet does not pass its checks), 8 if x, y are not its own, 14 for its name.
-pub fn check_place(sheet: Sheet, count: usize, last_id: u32, place: Place) -> Verdict
+pub fn check_place(sheet: Sheet, count: usize, last_id: u32, place: Place) -> Result<(), Refusal>
     ensures { reply_of result ≡ place_reply sheet count last_id place }
 {
     let answer = conic::forward(sheet, place.latitude as i64, place.longitude as i64);
     verdict_at(answer, count, last_id, place)
 }
 
-// The same for a sheet that passes its checks; not offered to callers.
-pub fn check_place_unchecked(sheet: Sheet, count: usize, last_id: u32, place: Place) -> Verdict
-    requires { passes_checks sheet ≡ true }
-    ensures { reply_of result ≡ place_reply sheet count last_id place }
+// The same on a checked sheet. (No plainer as one function: it would take the way from globe to map as a closure, for a line each.)
+pub fn check_place_on(
+    checked: CheckedSheet,
+    count: usize,
+    last_id: u32,
+    place: Place,
+) -> Result<(), Refusal>
+    ensures { reply_of result ≡ place_reply checked.sheet count last_id place }
 {
-    let answer = conic::forward_unchecked(sheet, place.latitude as i64, place.longitude as i64);
+    let answer = conic::forward_on(checked, place.latitude as i64, place.longitude as i64);
     verdict_at(answer, count, last_id, place)
 }
 
 // The same, once it is known where the place's latitude and longitude lie on the map.
-fn verdict_at(answer: MapAnswer, count: usize, last_id: u32, place: Place) -> Verdict
+fn verdict_at(
+    answer: Result<MapPoint, Refusal>,
+    count: usize,
+    last_id: u32,
+    place: Place,
+) -> Result<(), Refusal>
     ensures { reply_of result ≡ in_order 0 (place_rules_at (map_reply_of answer) count last_id place) (accepted []) }
 {
-    if (count == 0) | (last_id < place.id) {
-        match answer {
-            MapAnswer::Point { x, y } => {
-                if (x == place.x as i64) & (y == place.y as i64) {
-                    let name = place.name;
-                    if is_name(name) {
-                        Verdict::Good
-                    } else {
-                        Verdict::Refused(Refusal::Name)
-                    }
-                } else {
-                    Verdict::Refused(Refusal::PlacePosition)
-                }
-            }
-            MapAnswer::Refused(_) => Verdict::Refused(Refusal::PlaceOffSheet),
-        }
-    } else {
-        Verdict::Refused(Refusal::IdOrder)
+    if !((count == 0) | (last_id < place.id)) {
+        return Err(Refusal::IdOrder);
     }
+    let Ok(point) = answer else {
+        return Err(Refusal::PlaceOffSheet);
+    };
+    let own = MapPoint {
+        x: i64::from(place.x),
+        y: i64::from(place.y),
+    };
+    if point != own {
+        return Err(Refusal::PlacePosition);
+    }
+    if !is_name(place.name) {
+        return Err(Refusal::Name);
+    }
+    Ok(())
 }
 
 // Whether a byte is of value 32 to 126, a printable character of ASCII.
@@ -102,13 +107,10 @@ fn is_printable(b: u8) -> bool
 pub fn is_name(name: [u8; 16]) -> bool
     ensures { result ≡ is_name name }
 {
-    // of the bytes from i on: whether they are printable, then zeros; whether they are zeros
+    // of the bytes so far, from the last: whether they are printable, then zeros; whether they are zeros
     let mut named = true;
     let mut zeros = true;
-    let mut i = NAME_LENGTH;
-    while 0 < i {
-        i -= 1;
-        let b = name[i];
+    for &b in name.iter().rev() {
         zeros = zeros & (b == 0);
         named = zeros | (named & is_printable(b));
     }

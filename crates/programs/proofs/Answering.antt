@@ -1,11 +1,11 @@
 -- What is printed part by part is the answers to the lines. Assumes nothing.
 use mathlib.Core.List.{List, [], ◌∷◌, ◌++◌, flatten, append_assoc}
 use mathlib.Core.Path.{◌≡◌, refl, ap, sym, ◌∙◌}
-use Prim.Native.Nat.{ℕ, ◌+◌, ◌<◌}
+use Prim.Native.Nat.{ℕ, ◌+◌, ◌<◌, min}
 use native.Mathlib.Numerals.{add-one}
 use native.Mathlib.Omega.{arith}
-use borrow.Author.Tests.{ltb-true, ltb-false, ne_eqb}
-use lib.Dec.{eqb, ltb}
+use borrow.Author.Tests.{leb-true, leb-false, ltb-true, ltb-false, ne_eqb}
+use lib.Dec.{eqb, ltb, leb}
 use lib.ListN.{length, get_or, take, drop, length-append, length-set, length-take}
 use lib.Seq.{take_all, take_at, take-append-le, take-suc-set, get_or-take, drop-cons}
 use Rattle.arith.proofs.Choose.{choose, by_test}
@@ -73,21 +73,22 @@ module _ (s : Sheet) (ps : List Place) where
   parts_after g line (part ∷ parts) h = part_after g line part (flatten parts) _ h (λ next k. parts_after (begun_by g part) next parts k)
 
 -- a byte of a part, and those after it
-module _ (g : Begun) (input : List ℕ) (k : ℕ) (h : k < length (taken input)) where
-  abbrev byte : ℕ
-  byte = get_or input k 0
+module _ (g : Begun) (part : List ℕ) (k : ℕ) (h : k < length part) where
+  turned : drop k part ≡ get_or part k 0 ∷ drop (k + 1) part
+  turned = rw (add-one k) (drop-cons part k 0 h)
 
-  abbrev rest : List ℕ
-  rest = drop (k + 1) (taken input)
-
-  turned : drop k (taken input) ≡ byte ∷ rest
-  turned = rw (← (get_or-take part_size input k 0 (omega (arith, length-take part_size input))), add-one k) (drop-cons (taken input) k 0 h)
-
-  pub begun_turn : begun_by g (drop k (taken input)) ≡ begun_by (begun_after g byte) rest
+  pub begun_turn : begun_by g (drop k part) ≡ begun_by (begun_after g (get_or part k 0)) (drop (k + 1) part)
   begun_turn = ap (begun_by g) turned
 
-  pub printed_turn : (s : Sheet) (ps : List Place) → printed_by s ps g (drop k (taken input)) ≡ printed_at s ps g byte ++ printed_by s ps (begun_after g byte) rest
+  pub printed_turn : (s : Sheet) (ps : List Place) → printed_by s ps g (drop k part) ≡ printed_at s ps g (get_or part k 0) ++ printed_by s ps (begun_after g (get_or part k 0)) (drop (k + 1) part)
   printed_turn s ps = ap (printed_by s ps g) turned
+
+-- the part that the code takes
+pub taken_is : (input : List ℕ) → take (min (length input) part_size) input ≡ taken input
+taken_is input =
+    by_test (leb (length input) part_size)
+    (λ t. let h = leb-true (length input) part_size t in take_all _ input (omega arith) ∙ sym (take_all part_size input h))
+    (λ f. let h = leb-false (length input) part_size f in let e : min (length input) part_size ≡ part_size = omega arith in rw e)
 
 pub parts_answered : PartsAnswered
 parts_answered s ps parts = parts_after s ps nothing_begun [] parts keeps_none

@@ -27,9 +27,6 @@ module _ (left : ℕ → List ℕ) (count at : ℕ) (before : List ℕ) where
   none_put h = record { in_turn_lem = omega arith; as_long = refl; room = omega arith; ends = refl; holds = refl }
 
   module _ {out : List ℕ} {to k : ℕ} (p : PutSoFar out to k) where
-    pub line_room : k < count → to + line_size ≤ length out
-    line_room h = omega arith
-
     -- a turn puts its line, and the others are left
     pub one_put : (line out' : List ℕ) (end : ℕ) → k < count → left k ≡ line ++ left (k + 1) → length line ≤ line_size → length out' ≡ length out → Stands to line end out out' → PutSoFar out' end (k + 1)
     one_put line out' end h turn fits same s =

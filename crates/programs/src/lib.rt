@@ -5,22 +5,18 @@
 
 #![tactic(auto)]
 
-ghost use Rattle.std.specs.Prelude.{◌≡◌, ◌+◌, ◌≤◌, min, length};
+ghost use Rattle.std.specs.Prelude.{◌≡◌, ◌+◌, ◌≤◌, length};
 ghost use Rattle.atlas_file.specs.Steps.{most_places};
-ghost use Rattle.atlas_file.specs.Reading.{read_reply, places_read};
+ghost use Rattle.atlas_file.specs.Reading.{places_read};
 ghost use Rattle.integrity.specs.Integrity.{longest_file};
-ghost use Rattle.atlas.specs.Tables.{AcceptedFile};
 ghost use Rattle.text.specs.Lines.{line_size, Holds, text_of};
-ghost use Rattle.text.specs.TapLines.{line_reply_of, line_reply};
 ghost use Rattle.programs.specs.Listing.{Stands, place_lines, listing_of};
 ghost use Rattle.programs.specs.Tapping.{near_line, point_line, answer_to, bytes_of, nothing_begun, begun_with, begun_after, begun_by, printed_at, printed_by, printed_at_end, taken};
 
-use atlas_file::{FileAnswer, MOST_PLACES};
-use conic::GlobeAnswer;
-use nearest::NearestAnswer;
+use atlas::Places;
 use place::Place;
 use sheet::Sheet;
-use text::{LINE_SIZE, Line, LineAnswer};
+use text::Line;
 
 // How many bytes of a file the programs read: one more than the longest atlas file has. These decide what is printed.
 pub const FILE_SIZE: usize = 37043;
@@ -37,46 +33,42 @@ pub fn file_size() -> usize
 pub fn listing(file: &[u8], out: &mut [u8; 65536]) -> usize
     ensures { Stands 0 (listing_of file.now) result out.old out.new }
 {
-    let answer = atlas_file::read_through(file, MOST_PLACES);
-    match answer {
-        FileAnswer::Atlas { count, sheet } => {
-            let first = records::sheet_record_length(sheet);
-            let at = put_line_unchecked(out, 0, text::count_line(count));
-            put_places(out, at, file, first, count)
+    match Places::read(file) {
+        Ok(places) => {
+            let at = put(out, 0, text::count_line(places.count));
+            put_places(out, at, places)
         }
-        FileAnswer::Refused { refusal, offset } => {
-            put_line_unchecked(out, 0, text::file_refused_line(refusal, offset))
-        }
+        Err(why) => put(out, 0, text::file_refused_line(why.refusal, why.offset)),
     }
 }
 
-// Writes a line into a buffer from `at` on, and answers where it ends; not offered to callers.
-pub fn put_line_unchecked(out: &mut [u8], at: usize, line: Line) -> usize
+// Writes a line, any bytes, into a buffer from `at` on, and answers where it ends; not offered to callers. (The buffer stays a slice with what is
+// filled of it beside: `Stands`, which `listing`, `answers` and `report` promise, speaks of the bytes after the text too.)
+pub fn put_line_unchecked(out: &mut [u8], at: usize, line: &[u8]) -> usize
+    requires { at + length line.now ≤ length out.old }
+    ensures { Stands at line.now result out.old out.new }
+{
+    let end = at + line.len();
+    out[at..end].copy_from_slice(line);
+    end
+}
+
+// The same of the text of a `Line`, where there is room for as much as one holds.
+fn put(out: &mut [u8], at: usize, line: Line) -> usize
     requires { at + line_size ≤ length out.old }
     ensures { Stands at (text_of line) result out.old out.new }
 {
-    let bytes = line.bytes;
-    let mut from = line.start;
-    let mut to = at;
-    while from < LINE_SIZE {
-        out[to] = bytes[from];
-        from += 1;
-        to += 1;
-    }
-    to
+    put_line_unchecked(out, at, line.as_str().as_bytes())
 }
 
-// The lines of the places of an accepted file whose first place's record starts at `first`.
-fn put_places(out: &mut [u8], at: usize, file: &[u8], first: usize, count: usize) -> usize
-    requires { (at + 64000 ≤ length out.old) × AcceptedFile file.now most_places first × (count ≡ (read_reply file.now most_places).count) }
-    ensures { Stands at (place_lines (places_read file.now most_places)) result out.old out.new }
+// The lines of the places of a file.
+fn put_places(out: &mut [u8], at: usize, places: Places<'_>) -> usize
+    requires { at + 64000 ≤ length out.old }
+    ensures { Stands at (place_lines (places_read places.entry.bytes.now most_places)) result out.old out.new }
 {
     let mut to = at;
-    let mut k = 0;
-    while k < count {
-        let place = atlas::place_of_unchecked(file, first, k);
-        to = put_line_unchecked(out, to, text::place_line(place));
-        k += 1;
+    for k in 0..places.count {
+        to = put(out, to, text::place_line(places.place_unchecked(k)));
     }
     to
 }
@@ -84,7 +76,8 @@ fn put_places(out: &mut [u8], at: usize, file: &[u8], first: usize, count: usize
 // So many bytes of a line are enough to tell what it is: one more than the longest tap has.
 pub const BEGUN_SIZE: usize = 25;
 
-// The first bytes of a line of taps, as far as it is read, up to BEGUN_SIZE.
+// The first bytes of a line of taps, as far as it is read, up to BEGUN_SIZE. No ArrayVec: `answers` and `finish` take any value of this type, also
+// one whose length is past its bytes.
 #[derive(Clone, Copy)]
 pub struct Begun {
     pub bytes: [u8; BEGUN_SIZE],
@@ -101,124 +94,80 @@ pub fn begin() -> Begun
     }
 }
 
-// What comes of a part of the input: the line that is begun then, and how many bytes are printed.
-#[derive(Clone, Copy)]
-pub struct Answered {
-    pub begun: Begun,
-    pub length: usize,
+impl Begun {
+    // What is read of the line.
+    fn read(&self) -> &[u8]
+        ensures { result.now ≡ bytes_of self.now }
+    {
+        &self.bytes[..self.length.min(BEGUN_SIZE)]
+    }
+
+    // Takes a byte, if there is room for it. A line that is longer is told by the bytes that it has.
+    fn push(&mut self, byte: u8)
+        ensures { self.new ≡ begun_with self.old byte }
+    {
+        if self.length < BEGUN_SIZE {
+            self.bytes[self.length] = byte;
+            self.length += 1;
+        }
+    }
 }
 
 // How many bytes of the input are taken at a time. Each may end a line, and the buffer has room for as many answers.
 pub const PART_SIZE: usize = 1024;
 
-// Answers each line that ends in the next part of the input, after the line that is begun. Of a longer part the first PART_SIZE bytes are
-// taken. What is printed stands at the start of the buffer; bytes after it are unchanged.
+// Answers each line that ends in the next part of the input, after the line that is begun, and answers how many bytes are printed. Of a longer
+// part the first PART_SIZE bytes are taken. What is printed stands at the start of the buffer; bytes after it are unchanged.
 pub fn answers(
     sheet: Sheet,
     table: &[Place],
-    begun: Begun,
+    begun: &mut Begun,
     input: &[u8],
     out: &mut [u8; 65536],
-) -> Answered
-    ensures { (result.begun ≡ begun_by begun (taken input.now)) × Stands 0 (printed_by sheet table.now begun (taken input.now)) result.length out.old out.new }
+) -> usize
+    ensures begun { begun.new ≡ begun_by begun.old (taken input.now) }
+    ensures printed { Stands 0 (printed_by sheet table.now begun.old (taken input.now)) result out.old out.new }
 {
-    let end = least(input.len(), PART_SIZE);
-    let mut begun = begun;
     let mut to = 0;
-    let mut k = 0;
-    while k < end {
-        let turn = feed(sheet, table, begun, input[k]);
-        begun = turn.begun;
-        to = put_line_unchecked(out, to, turn.printed);
-        k += 1;
+    for &byte in &input[..input.len().min(PART_SIZE)] {
+        to = put(out, to, feed(sheet, table, begun, byte));
     }
-    Answered {
-        begun: begun,
-        length: to,
-    }
+    to
 }
 
-fn least(a: usize, b: usize) -> usize
-    ensures { result ≡ min a b }
-{
-    if a < b { a } else { b }
-}
-
-// What comes of a byte of the input: the line that is begun then, and what is printed.
-#[derive(Clone, Copy)]
-struct Turn {
-    begun: Begun,
-    printed: Line,
-}
-
-// The next byte of the input, after the line that is begun: where it is a newline the line is answered, else nothing is printed.
-fn feed(sheet: Sheet, table: &[Place], begun: Begun, byte: u8) -> Turn
-    ensures { (result.begun ≡ begun_after begun byte) × Holds result.printed (printed_at sheet table.now begun byte) }
+// The next byte of the input, after the line that is begun, and what is printed: where it is a newline the line is answered, else nothing.
+fn feed(sheet: Sheet, table: &[Place], begun: &mut Begun, byte: u8) -> Line
+    ensures begun { begun.new ≡ begun_after begun.old byte }
+    ensures printed { Holds result (printed_at sheet table.now begun.old byte) }
 {
     if byte == b'\n' {
-        let next = begin();
-        let printed = answer(sheet, table, begun);
-        Turn {
-            begun: next,
-            printed: printed,
-        }
+        let line = answer(sheet, table, begun.read());
+        *begun = begin();
+        line
     } else {
-        let next = with_byte(begun, byte);
-        let printed = text::empty();
-        Turn {
-            begun: next,
-            printed: printed,
-        }
+        begun.push(byte);
+        text::empty()
     }
 }
 
 // What is printed at the end of the input: the answer to a last line without its newline, if it has any byte.
-pub fn finish(sheet: Sheet, table: &[Place], begun: Begun) -> Line
-    ensures { Holds result (printed_at_end sheet table.now begun) }
+pub fn finish(sheet: Sheet, table: &[Place], begun: &Begun) -> Line
+    ensures { Holds result (printed_at_end sheet table.now begun.now) }
 {
     if begun.length == 0 {
         text::empty()
     } else {
-        answer(sheet, table, begun)
-    }
-}
-
-fn with_byte(begun: Begun, byte: u8) -> Begun
-    ensures { result ≡ begun_with begun byte }
-{
-    let length = begun.length;
-    if BEGUN_SIZE <= length {
-        return begun;
-    }
-    let mut bytes = begun.bytes;
-    bytes[length] = byte;
-    Begun {
-        bytes: bytes,
-        length: length + 1,
-    }
-}
-
-// The map point of a line that is begun.
-fn point_of(begun: Begun) -> LineAnswer
-    ensures { line_reply_of result ≡ line_reply (bytes_of begun) }
-{
-    let bytes = begun.bytes;
-    let length = begun.length;
-    if length < BEGUN_SIZE {
-        text::point_of_line(&bytes[..length])
-    } else {
-        text::point_of_line(&bytes)
+        answer(sheet, table, begun.read())
     }
 }
 
 // The answer to a line.
-fn answer(sheet: Sheet, table: &[Place], begun: Begun) -> Line
-    ensures { Holds result (answer_to sheet table.now (bytes_of begun)) }
+fn answer(sheet: Sheet, table: &[Place], line: &[u8]) -> Line
+    ensures { Holds result (answer_to sheet table.now line.now) }
 {
-    let point = point_of(begun);
-    match point {
-        LineAnswer::Point { x, y } => answer_at(sheet, table, x, y),
-        LineAnswer::Refused(r) => text::refused_line(r),
+    match text::point_of_line(line) {
+        Ok(point) => answer_at(sheet, table, point.x, point.y),
+        Err(refusal) => text::refused_line(refusal),
     }
 }
 
@@ -226,13 +175,9 @@ fn answer(sheet: Sheet, table: &[Place], begun: Begun) -> Line
 fn answer_at(sheet: Sheet, table: &[Place], x: i64, y: i64) -> Line
     ensures { Holds result (point_line sheet table.now x y) }
 {
-    let position = conic::inverse(sheet, x, y);
-    match position {
-        GlobeAnswer::Position {
-            latitude,
-            longitude,
-        } => nearest_to(table, x, y, latitude, longitude),
-        GlobeAnswer::Refused(r) => text::refused_line(r),
+    match conic::inverse(sheet, x, y) {
+        Ok(position) => nearest_to(table, x, y, position.latitude, position.longitude),
+        Err(refusal) => text::refused_line(refusal),
     }
 }
 
@@ -240,12 +185,11 @@ fn answer_at(sheet: Sheet, table: &[Place], x: i64, y: i64) -> Line
 fn nearest_to(table: &[Place], x: i64, y: i64, latitude: i64, longitude: i64) -> Line
     ensures { Holds result (near_line table.now x y latitude longitude) }
 {
-    let nearest = nearest::nearest_in_usual_reach(table, x, y);
-    match nearest {
-        NearestAnswer::At { position } => {
+    match nearest::nearest_in_usual_reach(table, x, y) {
+        Ok(position) => {
             let place = table::place_at_unchecked(table, position);
             text::found_line(latitude, longitude, place.id)
         }
-        NearestAnswer::Refused(_) => text::nothing_found_line(latitude, longitude),
+        Err(_) => text::nothing_found_line(latitude, longitude),
     }
 }

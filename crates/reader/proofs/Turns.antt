@@ -1,15 +1,16 @@
 -- A turn of the loop that steps a reader through a file. Assumes nothing.
-use mathlib.Core.Path.{◌≡◌, refl, sym, ap, ◌∙◌}
+use mathlib.Core.Path.{◌≡◌, sym, ap, ◌∙◌}
 use mathlib.Core.Bool.{true}
 use mathlib.Core.List.{List}
 use Prim.Native.Nat.{ℕ, ◌-◌, ◌<◌}
 use lib.ListN.{length}
-use Rattle.refusal.specs.declared.Refusal.{Refusal}
+use Rattle.std.specs.Prelude.{Ok, Err}
 use Rattle.atlas_file.specs.declared.State.{State}
+use Rattle.atlas_file.specs.declared.Advance.{Advance}
 use Rattle.atlas_file.specs.declared.Found.TheVariants as found
-use Rattle.atlas_file.specs.declared.StepAnswer.{StepAnswer}
-use Rattle.atlas_file.specs.Steps.{step_of, step_reply_of, step_reply}
-use Rattle.atlas_file.specs.Reading.{FileReply, accepted_file, refused_file, goes_on}
+use Rattle.atlas_file.specs.declared.reading.FileRefusal.{FileRefusal}
+use Rattle.atlas_file.specs.Steps.{StepAnswer, next_of, step_of, step_reply_of, step_reply}
+use Rattle.atlas_file.specs.Reading.{FileReply, accepted_file, refused_file, goes_on, steps_on}
 use Rattle.atlas_file.proofs.Answers.{distinct_step_replies}
 use Rattle.atlas_file.proofs.Moves.{stays}
 use Rattle.atlas_file.proofs.ReadsOn.{ReadsOn, less, reads_on, ends, refuses}
@@ -20,27 +21,29 @@ pub record Stands (b : List ℕ) (reply : FileReply) (d : Reader) : Type 0 where
   pub file : d.«bytes».now ≡ b
   pub on : ReadsOn b reply d.«state»
 
--- its step answers a
-module _ {b : List ℕ} {reply : FileReply} {d : Reader} (stands : Stands b reply d) (a : StepAnswer) (steps : step_reply_of a ≡ step_reply d.«bytes».now d.«state») where
+module _ {b : List ℕ} {reply : FileReply} {d : Reader} (stands : Stands b reply d) where
   abbrev s : State
   s = d.«state»
 
-  is_step : a ≡ step_of b s
-  is_step = distinct_step_replies a _ steps ∙ ap (λ (l : List ℕ). step_of l s) stands.file
+  is_step : (a : StepAnswer) → step_reply_of s a ≡ step_reply d.«bytes».now s → a ≡ step_of b s
+  is_step a steps = (distinct_step_replies s s a _ steps).0 ∙ ap (λ (l : List ℕ). step_of l s) stands.file
 
-  -- where the file goes on, the reader e is moved to the answer's state
-  module _ (goes : goes_on a.«found» ≡ true) {e : Reader} (same : (e.«bytes» ≡ d.«bytes») × (e.«state» ≡ a.«next»)) where
-    pub is_less : length b - e.«state».«at» < length b - s.«at»
-    is_less = rw same.1 (less b s a is_step goes)
+  pub at_refusal : (why : FileRefusal) → step_reply_of s (Err why) ≡ step_reply d.«bytes».now s → refused_file why.«refusal» why.«offset» ≡ reply
+  at_refusal why steps = refuses b s reply stands.on why (is_step (Err why) steps)
 
-    pub still_stands : Stands b reply e
-    still_stands = record { file = ap (λ x. x.now) same.0 ∙ stands.file; on = rw same.1 (reads_on b s a is_step reply stands.on _ refl goes) }
+  -- its step is not refused
+  module _ (advance : Advance) (steps : step_reply_of s (Ok advance) ≡ step_reply d.«bytes».now s) where
+    -- where the file goes on, the reader e is moved to the next state
+    module _ (goes : goes_on advance.«found» ≡ true) {e : Reader} (same : (e.«bytes» ≡ d.«bytes») × (e.«state» ≡ advance.«next»)) where
+      pub is_less : length b - e.«state».«at» < length b - s.«at»
+      is_less = rw same.1 (less b s (Ok advance) (is_step (Ok advance) steps) goes)
 
-  -- at the end the state stays
-  pub at_end : (count : ℕ) → a.«found» ≡ found.End count → accepted_file count a.«next».«sheet» ≡ reply
-  at_end count k =
-      let here : a.«next» ≡ s = ap (λ (x : StepAnswer). x.«next») is_step ∙ stays b s (ap (λ (x : StepAnswer). goes_on x.«found») (sym is_step) ∙ ap goes_on k) in
-      ap (λ (x : State). accepted_file count x.«sheet») here ∙ ends b s a is_step reply stands.on count k
+      pub still_stands : Stands b reply e
+      still_stands = record { file = ap (λ x. x.now) same.0 ∙ stands.file; on = rw same.1 (reads_on b s reply stands.on advance (is_step (Ok advance) steps) goes) }
 
-  pub at_refusal : (why : Refusal) (offset : ℕ) → a.«found» ≡ found.Refused why offset → refused_file why offset ≡ reply
-  at_refusal = refuses b s a is_step reply stands.on
+    -- at the end the state stays
+    pub at_end : (count : ℕ) → advance.«found» ≡ found.End count → accepted_file count advance.«next».«sheet» ≡ reply
+    at_end count k =
+        let is = is_step (Ok advance) steps in
+        let here : advance.«next» ≡ s = ap (next_of s) is ∙ stays b s (ap steps_on (sym is) ∙ ap goes_on k) in
+        ap (λ (x : State). accepted_file count x.«sheet») here ∙ ends b s reply stands.on advance is count k

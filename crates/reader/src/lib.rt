@@ -6,7 +6,7 @@ ghost use Rattle.std.specs.Prelude.{◌≡◌};
 ghost use Rattle.atlas_file.specs.Steps.{step_reply_of, step_reply};
 ghost use Rattle.atlas_file.specs.Reading.{start_of, read_reply, file_reply_of};
 
-use atlas_file::{FileAnswer, Found, State, StepAnswer};
+use atlas_file::{Advance, Atlas, FileRefusal, Found, State};
 
 // A reader that carries its file and where it stands in it.
 #[derive(Clone, Copy)]
@@ -21,60 +21,42 @@ pub struct Reader<'a> {
 pub fn start<'a>(bytes: &'a [u8], room: usize) -> Reader<'a>
     ensures { (result.bytes ≡ bytes.entry) × (result.state ≡ start_of room) }
 {
-    let state = atlas_file::start(room);
-    reader_of(bytes, state)
-}
-
-// Reads the record at which the reader stands, which may be anywhere: what it is, and the state past it; after a refusal or the end, the state as it was.
-pub fn step<'a>(reader: Reader<'a>) -> StepAnswer
-    ensures { step_reply_of result ≡ step_reply reader.entry.bytes.now reader.entry.state }
-{
-    atlas_file::step(reader.bytes, reader.state)
-}
-
-// The same reader at another state, as where a step leads.
-pub fn moved<'a>(reader: Reader<'a>, state: State) -> Reader<'a>
-    ensures { (result.bytes ≡ reader.entry.bytes) × (result.state ≡ state) }
-{
     Reader {
-        bytes: reader.bytes,
-        state: state,
+        bytes,
+        state: atlas_file::start(room),
+    }
+}
+
+impl<'a> Reader<'a> {
+    // Reads the record at which the reader stands, which may be anywhere: what it is, and the state past it, or at the end the state as it was.
+    pub fn step(self) -> Result<Advance, FileRefusal>
+        ensures { step_reply_of self.entry.state result ≡ step_reply self.entry.bytes.now self.entry.state }
+    {
+        atlas_file::step(self.bytes, self.state)
+    }
+
+    // The same reader at another state, as where a step leads.
+    pub fn moved(self, state: State) -> Reader<'a>
+        ensures { (result.bytes ≡ self.entry.bytes) × (result.state ≡ state) }
+    {
+        Reader { state, ..self }
     }
 }
 
 // Reads a file through with a reader, to its end or to the first refusal: what atlas_file::read_through answers.
-pub fn run(bytes: &[u8], room: usize) -> FileAnswer
+pub fn run(bytes: &[u8], room: usize) -> Result<Atlas, FileRefusal>
     ensures { file_reply_of result ≡ read_reply bytes.now room }
 {
     let mut reader = start(bytes, room);
+    // counts no index: each step leads to the next. A loop beside read_through's: document 01's reader is run by its own step.
     loop {
-        let answer = step(reader);
-        let found = answer.found;
-        let next = answer.next;
-        match found {
-            Found::Sheet(_) => {}
-            Found::Place => {}
-            Found::End { count } => {
-                let sheet = next.sheet;
-                return FileAnswer::Atlas {
-                    count: count,
-                    sheet: sheet,
-                };
-            }
-            Found::Refused { refusal, offset } => {
-                return FileAnswer::Refused {
-                    refusal: refusal,
-                    offset: offset,
-                };
-            }
+        let advance = reader.step()?;
+        if let Found::End { count } = advance.found {
+            return Ok(Atlas {
+                count,
+                sheet: advance.next.sheet,
+            });
         }
-        reader = moved(reader, next);
+        reader = reader.moved(advance.next);
     }
-}
-
-// A reader of its two parts.
-fn reader_of<'a>(bytes: &'a [u8], state: State) -> Reader<'a>
-    ensures { (result.bytes ≡ bytes.entry) × (result.state ≡ state) }
-{
-    Reader { bytes, state }
 }

@@ -6,10 +6,9 @@ use Prim.Native.Nat.{ℕ}
 use lib.Dec.{eqb}
 use lib.IntN.{ℤ, pos, nat_abs}
 use lib.ListN.{get_or}
-use Rattle.refusal.proofs.Distinct.{same_refusal, accepted-or_refused, same_values}
+use Rattle.refusal.proofs.Distinct.{distinct_results}
 use Rattle.records.specs.declared.Record.{Record}
 use Rattle.records.specs.declared.Record.TheVariants as records
-use Rattle.records.specs.declared.Layout.TheVariants.{Known, Refused}
 use Rattle.records.specs.Records.{record_number}
 use Rattle.records.specs.Laws.{DistinctLayoutReplies}
 
@@ -23,15 +22,9 @@ record_again records.Sheet = refl
 record_again records.Place = refl
 record_again records.End = refl
 
-value : (at : ℕ) → List ℤ → ℕ
-value at vs = nat_abs (get_or vs at (pos 0))
+value : List ℤ → ℕ
+value vs = nat_abs (get_or vs 0 (pos 0))
 
 pub distinct_layout_replies : DistinctLayoutReplies
 unfolding value
-distinct_layout_replies (Known w n) (Known v m) e =
-    let k = same_values _ _ e in
-    let which = sym (record_again w) ∙ ap record_of (ap (value 0) k) ∙ record_again v in
-    λ i. Known (which i) (ap (value 1) k i)
-distinct_layout_replies (Known w n) (Refused r) e = absurd (accepted-or_refused _ 2 r e)
-distinct_layout_replies (Refused r) (Known w n) e = absurd (accepted-or_refused _ 2 r (sym e))
-distinct_layout_replies (Refused r) (Refused s) e = ap Refused (same_refusal 2 2 r s e)
+distinct_layout_replies = distinct_results 2 _ (λ w v e. sym (record_again w) ∙ ap record_of (ap value e) ∙ record_again v)

@@ -9,7 +9,7 @@ use Rattle.little_endian.specs.Numbers.{i32_at, u32_bytes, numbers_bytes}
 use Rattle.records.specs.Records.{layout_of, place_of, place_record, end_of, end_record}
 use Rattle.records.specs.Laws.{PlaceKind, PlaceBack, PlaceForth, PlaceLength, PlaceDecoded, EndKind, EndBack, EndForth, EndLength}
 use Rattle.little_endian.proofs.NumberLaws.{u32_back, i32_back, u32_below, i32_below, u32_then, i32_then}
-use Rattle.records.proofs.KindBytes.{row, whole-record}
+use Rattle.records.proofs.KindBytes.{kind_byte, whole-record}
 
 -- two places are the same where their fields are
 pub place_is : {s t : Place} →
@@ -24,7 +24,7 @@ place_is p1 p2 p3 p4 p5 p6 = λ i. record { «id» = p1 i; «latitude» = p2 i; 
 
 pub place-kind : PlaceKind
 unfolding layout_of place_record numbers_bytes u32_bytes
-place-kind p e = record { body = 36; layout = refl; whole = omega arith }
+place-kind p e = record { layout = refl; whole = omega arith }
 
 pub place-back : PlaceBack
 unfolding place_of place_record numbers_bytes i32_at u32_bytes
@@ -38,13 +38,13 @@ place-back p h =
     (take_all 16 p.«name» (omega (arith, h.name)))
 
 pub place-length : PlaceLength
-place-length r k = (row k).1
+place-length r k = k.whole
 
 pub place-forth : PlaceForth
 unfolding place_of place_record numbers_bytes u32_bytes
 place-forth r k b =
-    let n = place-length r k in
-    whole-record 2 (row k).0 (omega arith)
+    let n = k.whole in
+    whole-record 2 (kind_byte k) (omega arith)
     (u32_then r b 1 (omega arith)
     (i32_then r b 5 (omega arith)
     (i32_then r b 9 (omega arith)
@@ -60,22 +60,22 @@ place-decoded r k b = record {
   longitude = i32_below r 9 b;
   x = i32_below r 13 b;
   y = i32_below r 17 b;
-  name = let n = place-length r k in simp (length-take, length-drop) (omega arith);
+  name = let n = k.whole in simp (length-take, length-drop) (omega arith);
 }
 
 pub end_kind : EndKind
 unfolding layout_of end_record numbers_bytes u32_bytes
-end_kind count = record { body = 4; layout = refl; whole = refl }
+end_kind count = record { layout = refl; whole = refl }
 
 pub end_back : EndBack
 unfolding end_of end_record numbers_bytes u32_bytes
 end_back count h = u32_back count [] h
 
 pub end_length : EndLength
-end_length r k = (row k).1
+end_length r k = k.whole
 
 pub end_forth : EndForth
 unfolding end_of end_record numbers_bytes
 end_forth r k b =
-    let n = end_length r k in
-    whole-record 3 (row k).0 (omega arith) (u32_then r b 1 (omega arith) (sym (drop_of_length-le r {i = 5} (omega arith))))
+    let n = k.whole in
+    whole-record 3 (kind_byte k) (omega arith) (u32_then r b 1 (omega arith) (sym (drop_of_length-le r {i = 5} (omega arith))))

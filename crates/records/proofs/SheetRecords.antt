@@ -1,16 +1,14 @@
 -- The laws of a sheet's record. Assumes nothing.
 use mathlib.Core.Path.{◌≡◌, refl, sym}
-use mathlib.Core.List.{List, []}
+use mathlib.Core.List.{[]}
 use native.Mathlib.Omega.{arith}
-use Prim.Native.Nat.{ℕ}
 use lib.ListN.{length, drop_of_length-le}
 use Rattle.sheet.specs.declared.Sheet.{Sheet}
-use Rattle.records.specs.declared.Record.TheVariants as records
 use Rattle.little_endian.specs.Numbers.{i32_at, u32_bytes, numbers_bytes}
-use Rattle.records.specs.Records.{layout_of, IsRecord, sheet_of, sheet_record}
+use Rattle.records.specs.Records.{layout_of, sheet_of, sheet_record}
 use Rattle.records.specs.Laws.{SheetKind, SheetBack, SheetForth, SheetAsLong, SheetMost, SheetDecoded}
 use Rattle.little_endian.proofs.NumberLaws.{u32_back, i32_back, u32_below, i32_below, u32_then, i32_then}
-use Rattle.records.proofs.KindBytes.{row, whole-record}
+use Rattle.records.proofs.KindBytes.{kind_byte, whole-record}
 
 -- two sheets are the same where their fields are
 pub sheet-is : {s t : Sheet} →
@@ -38,7 +36,10 @@ sheet-is p1 p2 p3 p4 p5 p6 p7 p8 p9 = λ i. record {
 
 pub sheet-kind : SheetKind
 unfolding layout_of sheet_record numbers_bytes u32_bytes
-sheet-kind s = record { body = 36; layout = refl; whole = refl }
+sheet-kind s = record { layout = refl; whole = refl }
+
+pub sheet_length : (s : Sheet) → length (sheet_record s) ≡ 37
+sheet_length s = (sheet-kind s).whole
 
 pub sheet-back : SheetBack
 unfolding sheet_of sheet_record numbers_bytes i32_at u32_bytes
@@ -54,15 +55,11 @@ sheet-back s h =
     (u32_back _ [] h.n)
     (i32_back _ [] h.g)
 
--- all have one length
-pub sheet-has_length : (r : List ℕ) → IsRecord records.Sheet r → length r ≡ 37
-sheet-has_length r k = (row k).1
-
 pub sheet-forth : SheetForth
 unfolding sheet_of sheet_record numbers_bytes
 sheet-forth r k b =
-    let n = sheet-has_length r k in
-    whole-record 1 (row k).0 (omega arith)
+    let n = k.whole in
+    whole-record 1 (kind_byte k) (omega arith)
     (i32_then r b 1 (omega arith)
     (i32_then r b 5 (omega arith)
     (i32_then r b 9 (omega arith)
@@ -76,10 +73,10 @@ sheet-forth r k b =
 
 pub sheet-as_long : SheetAsLong
 unfolding sheet_record numbers_bytes u32_bytes
-sheet-as_long r k = sym (sheet-has_length r k)
+sheet-as_long r k = sym (k.whole)
 
 pub sheet-most : SheetMost
-sheet-most r k = omega (arith, sheet-has_length r k)
+sheet-most r k = omega (arith, k.whole)
 
 pub sheet-decoded : SheetDecoded
 unfolding sheet_of

@@ -1,15 +1,16 @@
 -- The laws of records that the file's layer goes by. Each is proved in proofs/, in the file that its comment names.
-use Rattle.std.specs.Prelude.{ℕ, ◌≤◌, ◌≡◌, List, length}
+use Rattle.std.specs.Prelude.{ℕ, ◌≤◌, ◌≡◌, List, length, Result}
+use Rattle.refusal.specs.declared.Refusal.{Refusal}
 use Rattle.sheet.specs.declared.Sheet.{Sheet}
+use Rattle.records.specs.declared.Record.{Record}
 use Rattle.records.specs.declared.Record.TheVariants as records
-use Rattle.records.specs.declared.Layout.{Layout}
 use Rattle.place.specs.declared.Place.{Place}
 use Rattle.little_endian.specs.Numbers.{Bytes, IsU32}
 use Rattle.records.specs.Records.{layout_reply_of, IsRecord, IsSheet, IsPlace, sheet_of, sheet_record, place_of, place_record, end_of, end_record}
 
 -- two layouts never share a number and values, so that the contract fixes the layout (Answers)
 abbrev pub DistinctLayoutReplies : Type 0
-DistinctLayoutReplies = (a b : Layout) → layout_reply_of a ≡ layout_reply_of b → a ≡ b
+DistinctLayoutReplies = (a b : Result Record Refusal) → layout_reply_of a ≡ layout_reply_of b → a ≡ b
 
 -- THE SHEET'S RECORD, by which alone the file's layer knows it. It is a sheet's record, and decoding gives the sheet back (SheetRecords)
 abbrev pub SheetKind : Type 0

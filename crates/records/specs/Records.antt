@@ -1,28 +1,32 @@
 -- Document 01, 'The atlas file': one byte of kind, then a body whose length the kind fixes. What a kind says, and the bytes of the three records, kind byte and body.
-use Rattle.std.specs.Prelude.{ℕ, suc, cond, ◌≡◌, List, [], ◌∷◌, ◌++◌, get_or, length, take, drop, eqb, pos}
+use Rattle.std.specs.Prelude.{ℕ, suc, cond, ◌≡◌, List, [], ◌∷◌, ◌++◌, get_or, length, take, drop, eqb, pos, Result, Ok, Err}
+use Rattle.refusal.specs.declared.Refusal.{Refusal}
 use Rattle.refusal.specs.declared.Refusal.TheVariants.{Kind}
-use Rattle.refusal.specs.Numbers.{Reply, accepted, refused}
+use Rattle.refusal.specs.Numbers.{Reply, reply_by}
 use Rattle.sheet.specs.declared.Sheet.{Sheet}
 use Rattle.records.specs.declared.Record.{Record}
 use Rattle.records.specs.declared.Record.TheVariants as records
-use Rattle.records.specs.declared.Layout.{Layout}
-use Rattle.records.specs.declared.Layout.TheVariants.{Known, Refused}
 use Rattle.place.specs.declared.Place.{Place}
 use Rattle.little_endian.specs.Numbers.{u32_at, i32_at, unsigned, numbers_bytes, IsI32, IsU32}
 
--- 1 sheet 36, 2 place 36, 3 end 4; any other kind is unknown: 2
-unfoldable pub layout_of : (byte : ℕ) → Layout
-layout_of byte = cond (eqb byte 1) (Known records.Sheet 36) (cond (eqb byte 2) (Known records.Place 36) (cond (eqb byte 3) (Known records.End 4) (Refused Kind)))
+-- the record that a kind byte begins: 1 sheet, 2 place, 3 end; any other kind is unknown: 2
+unfoldable pub layout_of : (byte : ℕ) → Result Record Refusal
+layout_of byte = cond (eqb byte 1) (Ok records.Sheet) (cond (eqb byte 2) (Ok records.Place) (cond (eqb byte 3) (Ok records.End) (Err Kind)))
 
--- the number and the values that a layout stands for: which record it is (1 sheet, 2 place, 3 end), and its body's length
+-- how many bytes its body has
+abbrev pub body_of : Record → ℕ
+body_of records.Sheet = 36
+body_of records.Place = 36
+body_of records.End = 4
+
+-- the number and the values that it stands for: which record it is (1 sheet, 2 place, 3 end), and its body's length
 abbrev pub record_number : Record → ℕ
 record_number records.Sheet = 1
 record_number records.Place = 2
 record_number records.End = 3
 
-abbrev pub layout_reply_of : Layout → Reply
-layout_reply_of (Known which body) = accepted (pos (record_number which) ∷ pos body ∷ [])
-layout_reply_of (Refused why) = refused 2 why
+abbrev pub layout_reply_of : Result Record Refusal → Reply
+layout_reply_of = reply_by 2 (λ which. pos (record_number which) ∷ pos (body_of which) ∷ [])
 
 -- what a kind byte comes to
 abbrev pub layout_reply : (byte : ℕ) → Reply
@@ -30,9 +34,8 @@ layout_reply byte = layout_reply_of (layout_of byte)
 
 -- the bytes of one such record: a kind byte that says so, and the body that it fixes
 pub record IsRecord (which : Record) (r : List ℕ) : Type 0 where
-  pub body : ℕ
-  pub layout : layout_of (get_or r 0 0) ≡ Known which body
-  pub whole : length r ≡ suc body
+  pub layout : layout_of (get_or r 0 0) ≡ Ok which
+  pub whole : length r ≡ suc (body_of which)
 
 -- sheet: nine 32-bit numbers in the sheet's order; w and n unsigned, the rest signed
 unfoldable pub sheet_of : List ℕ → Sheet

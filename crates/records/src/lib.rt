@@ -5,145 +5,129 @@
 
 #![tactic(auto)]
 
-ghost use Rattle.std.specs.Prelude.{◌≡◌, ◌+◌, ◌*◌, ◌≤◌, ◌<◌, length, take, drop};
-ghost use Rattle.little_endian.specs.Numbers.{put};
-ghost use Rattle.records.specs.Records.{layout_reply_of, layout_reply, IsRecord, sheet_of, sheet_record, place_of, place_record, end_of, end_record};
+ghost use Rattle.std.specs.Prelude.{◌≡◌, length};
+ghost use Rattle.records.specs.Records.{body_of, layout_reply_of, layout_reply, IsRecord, sheet_of, sheet_record, place_of, place_record, end_of, end_record};
 ghost use Rattle.records.specs.declared.Record.TheVariants as records;
 
-use place::{NAME_LENGTH, Place};
+use little_endian::{
+    bytes_at_unchecked, i32_at_unchecked, put_bytes_unchecked, put_numbers_unchecked, to_unsigned,
+    u32_at_unchecked,
+};
+use place::Place;
 use refusal::Refusal;
 use sheet::Sheet;
 
-// The kinds, and how many bytes follow each kind's byte.
-const SHEET: u8 = 1;
-
-const PLACE: u8 = 2;
-
-const END: u8 = 3;
-
-const SHEET_BODY: usize = 36;
-
-const PLACE_BODY: usize = 36;
-
-const END_BODY: usize = 4;
-
 // How long a place's record and the end record are, kind byte and body.
+// No plainer: a constant's value may not call `body`.
 pub const PLACE_RECORD: usize = 37;
 
 pub const END_RECORD: usize = 5;
 
-// Which record it is.
-#[derive(Clone, Copy)]
+// Which record it is, by its kind byte.
+#[derive(Clone, Copy, Debug, PartialEq, Eq)]
 pub enum Record {
-    Sheet,
-    Place,
-    End,
+    Sheet = 1,
+    Place = 2,
+    End = 3,
 }
 
-// What a kind byte says: which record it begins, and how many bytes its body has.
-#[derive(Clone, Copy)]
-pub enum Layout {
-    Known { record: Record, body: usize },
-    Refused(Refusal),
+const SHEET: u8 = Record::Sheet as u8;
+
+const PLACE: u8 = Record::Place as u8;
+
+const END: u8 = Record::End as u8;
+
+impl Record {
+    // How many bytes follow the kind byte.
+    pub fn body(self) -> usize
+        ensures { result ≡ body_of self }
+    {
+        match self {
+            Record::Sheet | Record::Place => 36,
+            Record::End => 4,
+        }
+    }
 }
 
-// The record that a kind byte begins, and its body's length; 2 for any other kind.
-pub fn layout_of(byte: u8) -> Layout
-    ensures { layout_reply_of result ≡ layout_reply byte }
-{
-    match byte {
-        SHEET => Layout::Known {
-            record: Record::Sheet,
-            body: SHEET_BODY,
-        },
-        PLACE => Layout::Known {
-            record: Record::Place,
-            body: PLACE_BODY,
-        },
-        END => Layout::Known {
-            record: Record::End,
-            body: END_BODY,
-        },
-        _ => Layout::Refused(Refusal::Kind),
+// The record that a kind byte begins; 2 for any other kind.
+impl TryFrom<u8> for Record {
+    type Error = Refusal;
+
+    ghost try_from_gives = { λ byte r. layout_reply_of r ≡ layout_reply byte };
+
+    #[tactic(auto, unfolding(crate::specs::Records::layout_of))]
+    fn try_from(byte: u8) -> Result<Record, Refusal> {
+        match byte {
+            SHEET => Ok(Record::Sheet),
+            PLACE => Ok(Record::Place),
+            END => Ok(Record::End),
+            _ => Err(Refusal::Kind),
+        }
     }
 }
 
 // The sheet of a sheet's record; not offered to callers.
+// No plainer: what each decoder asks of the bytes is another fact, so a type that holds it would serve one decoder.
+#[tactic(auto, unfolding(crate::specs::Records::sheet_of))]
 pub fn decode_sheet_unchecked(bytes: &[u8]) -> Sheet
     requires { IsRecord records.Sheet bytes.now }
     ensures { result ≡ sheet_of bytes.now }
 {
     Sheet {
-        first_parallel: little_endian::i32_at_unchecked(bytes, 1),
-        second_parallel: little_endian::i32_at_unchecked(bytes, 5),
-        origin_latitude: little_endian::i32_at_unchecked(bytes, 9),
-        central_meridian: little_endian::i32_at_unchecked(bytes, 13),
-        south_edge: little_endian::i32_at_unchecked(bytes, 17),
-        north_edge: little_endian::i32_at_unchecked(bytes, 21),
-        half_width: little_endian::u32_at_unchecked(bytes, 25),
-        cone_constant: little_endian::u32_at_unchecked(bytes, 29),
-        radius_constant: little_endian::i32_at_unchecked(bytes, 33),
+        first_parallel: i32_at_unchecked(bytes, 1),
+        second_parallel: i32_at_unchecked(bytes, 5),
+        origin_latitude: i32_at_unchecked(bytes, 9),
+        central_meridian: i32_at_unchecked(bytes, 13),
+        south_edge: i32_at_unchecked(bytes, 17),
+        north_edge: i32_at_unchecked(bytes, 21),
+        half_width: u32_at_unchecked(bytes, 25),
+        cone_constant: u32_at_unchecked(bytes, 29),
+        radius_constant: i32_at_unchecked(bytes, 33),
     }
 }
 
 // How long a sheet's record is.
+#[tactic(auto, using(crate::proofs::SheetRecords::sheet_length))]
 pub fn sheet_record_length(sheet: Sheet) -> usize
     ensures { result ≡ length (sheet_record sheet) }
 {
-    SHEET_BODY + 1
+    Record::Sheet.body() + 1
 }
 
 // Fills a part of a buffer with a sheet's record; not offered to callers.
+#[tactic(auto, using(crate::proofs::SheetRecords::sheet_length))]
 pub fn write_sheet_unchecked(part: &mut [u8], sheet: Sheet)
     requires { length part.old ≡ length (sheet_record sheet) }
     ensures { part.new ≡ sheet_record sheet }
 {
     let numbers = [
-        little_endian::to_unsigned(sheet.first_parallel),
-        little_endian::to_unsigned(sheet.second_parallel),
-        little_endian::to_unsigned(sheet.origin_latitude),
-        little_endian::to_unsigned(sheet.central_meridian),
-        little_endian::to_unsigned(sheet.south_edge),
-        little_endian::to_unsigned(sheet.north_edge),
+        to_unsigned(sheet.first_parallel),
+        to_unsigned(sheet.second_parallel),
+        to_unsigned(sheet.origin_latitude),
+        to_unsigned(sheet.central_meridian),
+        to_unsigned(sheet.south_edge),
+        to_unsigned(sheet.north_edge),
         sheet.half_width,
         sheet.cone_constant,
-        little_endian::to_unsigned(sheet.radius_constant),
+        to_unsigned(sheet.radius_constant),
     ];
     part[0] = SHEET;
-    little_endian::put_numbers_unchecked(part, &numbers);
-}
-
-// The name in the bytes from `at`.
-fn name_at(bytes: &[u8], at: usize) -> [u8; 16]
-    requires { at + 16 ≤ length bytes.now }
-    ensures { result ≡ take 16 (drop at bytes.now) }
-{
-    let mut name = [0u8; 16];
-    name.copy_from_slice(&bytes[at..at + NAME_LENGTH]);
-    name
-}
-
-// Writes a name into the bytes from `at`.
-fn put_name(out: &mut [u8], at: usize, name: [u8; 16])
-    requires { at + 16 ≤ length out.old }
-    ensures { out.new ≡ put out.old at name }
-{
-    out[at..at + NAME_LENGTH].copy_from_slice(&name);
+    put_numbers_unchecked(part, &numbers);
 }
 
 // The place of a place's record; not offered to callers.
+#[tactic(auto, unfolding(crate::specs::Records::place_of))]
 pub fn decode_place_unchecked(bytes: &[u8]) -> Place
     requires { IsRecord records.Place bytes.now }
     ensures { result ≡ place_of bytes.now }
 {
-    let name = name_at(bytes, 21);
     Place {
-        id: little_endian::u32_at_unchecked(bytes, 1),
-        latitude: little_endian::i32_at_unchecked(bytes, 5),
-        longitude: little_endian::i32_at_unchecked(bytes, 9),
-        x: little_endian::i32_at_unchecked(bytes, 13),
-        y: little_endian::i32_at_unchecked(bytes, 17),
-        name: name,
+        id: u32_at_unchecked(bytes, 1),
+        latitude: i32_at_unchecked(bytes, 5),
+        longitude: i32_at_unchecked(bytes, 9),
+        x: i32_at_unchecked(bytes, 13),
+        y: i32_at_unchecked(bytes, 17),
+        name: bytes_at_unchecked(bytes, 21),
     }
 }
 
@@ -154,31 +138,31 @@ pub fn write_place_unchecked(part: &mut [u8], place: Place)
 {
     let numbers = [
         place.id,
-        little_endian::to_unsigned(place.latitude),
-        little_endian::to_unsigned(place.longitude),
-        little_endian::to_unsigned(place.x),
-        little_endian::to_unsigned(place.y),
+        to_unsigned(place.latitude),
+        to_unsigned(place.longitude),
+        to_unsigned(place.x),
+        to_unsigned(place.y),
     ];
     part[0] = PLACE;
-    little_endian::put_numbers_unchecked(part, &numbers);
-    let name = place.name;
-    put_name(part, 21, name);
+    put_numbers_unchecked(part, &numbers);
+    put_bytes_unchecked(part, 21, &place.name);
 }
 
 // The number of places in an end record; not offered to callers.
+#[tactic(auto, unfolding(crate::specs::Records::end_of))]
 pub fn decode_end_unchecked(bytes: &[u8]) -> u32
     requires { IsRecord records.End bytes.now }
     ensures { result ≡ end_of bytes.now }
 {
-    little_endian::u32_at_unchecked(bytes, 1)
+    u32_at_unchecked(bytes, 1)
 }
 
 // Fills a part of a buffer with the end record; not offered to callers.
+#[tactic(auto, using(little_endian::proofs::Puts::written), unfolding(crate::specs::Records::end_record))]
 pub fn write_end_unchecked(part: &mut [u8], count: u32)
     requires { length part.old ≡ 5 }
     ensures { part.new ≡ end_record count }
 {
-    let numbers = [count];
     part[0] = END;
-    little_endian::put_numbers_unchecked(part, &numbers);
+    put_numbers_unchecked(part, &[count]);
 }

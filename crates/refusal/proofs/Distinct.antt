@@ -9,9 +9,10 @@ use borrow.Author.Tests.{ne_eqb}
 use lib.Dec.{eqb}
 use lib.IntN.{ℤ}
 use lib.ListN.{get_or, get_or-eq_default}
+use Rattle.std.specs.Prelude.{Result, Ok, Err}
 use Rattle.refusal.specs.declared.Refusal.{Refusal}
 use Rattle.refusal.specs.declared.Refusal.TheVariants.{Cut, Kind, TrailingBytes, SheetLimit, SheetConstants, IdOrder, PlaceOffSheet, PlacePosition, EndCount, NoRoom, OffSheet, OutOfRange, NothingInReach, Name, AnswerOffSheet}
-use Rattle.refusal.specs.Numbers.{number_of, Reply, accepted, refused, DistinctNumbers, NoNumberZero}
+use Rattle.refusal.specs.Numbers.{number_of, Reply, accepted, refused, reply_by, DistinctNumbers, NoNumberZero}
 
 -- the refusals in the order of their numbers; the first stands at 0 too, which is no refusal's number
 by_number : List Refusal
@@ -76,3 +77,11 @@ accepted-or_refused vs k r e = no_number_zero r (sym (number-of e))
 
 pub same_values : (us vs : List ℤ) → accepted us ≡ accepted vs → us ≡ vs
 same_values us vs = ap (λ (x : Reply). x.values)
+
+-- two results never share a reply, where no two values do
+pub distinct_results : {T : Type 0} (k : ℕ) (values : T → List ℤ) → ((t u : T) → values t ≡ values u → t ≡ u) →
+    (a b : Result T Refusal) → reply_by k values a ≡ reply_by k values b → a ≡ b
+distinct_results k values distinct (Ok t) (Ok u) e = ap Ok (distinct t u (same_values _ _ e))
+distinct_results k values distinct (Ok t) (Err r) e = absurd (accepted-or_refused _ k r e)
+distinct_results k values distinct (Err r) (Ok t) e = absurd (accepted-or_refused _ k r (sym e))
+distinct_results k values distinct (Err r) (Err s) e = ap Err (same_refusal k k r s e)

@@ -1,5 +1,5 @@
 -- Document 01, 'Numbers that come back'.
-use Rattle.std.specs.Prelude.{◌≡◌, List, ℕ, ℤ, pos, replicate}
+use Rattle.std.specs.Prelude.{◌≡◌, List, ℕ, ℤ, pos, replicate, Result, Ok, Err}
 use Rattle.refusal.specs.declared.Refusal.{Refusal}
 use Rattle.refusal.specs.declared.Refusal.TheVariants.{Cut, Kind, TrailingBytes, SheetLimit, SheetConstants, IdOrder, PlaceOffSheet, PlacePosition, EndCount, NoRoom, OffSheet, OutOfRange, NothingInReach, Name, AnswerOffSheet}
 
@@ -36,6 +36,11 @@ accepted vs = record { number = 0; values = vs }
 -- a refusal returns its number, and zeros for the rest: here k values
 abbrev pub refused : ℕ → Refusal → Reply
 refused k r = record { number = number_of r; values = replicate k (pos 0) }
+
+-- what a result stands for: the values of what was found, or the refusal, with k zeros
+abbrev pub reply_by : {T : Type 0} → ℕ → (T → List ℤ) → Result T Refusal → Reply
+reply_by k values (Ok found) = accepted (values found)
+reply_by k values (Err r) = refused k r
 
 -- a refusal is never taken for an acceptance: no refusal has the number 0
 abbrev pub NoNumberZero : Type 0

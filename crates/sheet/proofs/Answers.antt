@@ -1,22 +1,18 @@
--- Two verdicts never share a number; Good is that of a sheet that passes its checks, and the others are refused with 4 or with 5. Assumes nothing.
-use mathlib.Core.Path.{◌≡◌, refl, ap, sym}
+-- Two answers to a check never share a number; `Ok` is that of a sheet that passes its checks, and the others are refused with 4 or with 5. Assumes nothing.
+use mathlib.Core.Path.{◌≡◌, refl}
 use mathlib.Core.Logic.{◌⊎◌, inl, inr}
 use mathlib.Core.List.{[]}
 use Rattle.arith.proofs.Choose.{choose}
 use Rattle.refusal.specs.declared.Refusal.TheVariants.{SheetLimit, SheetConstants}
 use Rattle.refusal.specs.Numbers.{Reply, accepted, refused}
 use Rattle.refusal.specs.Rules.{in_order}
-use Rattle.refusal.proofs.Distinct.{same_refusal, accepted-or_refused}
+use Rattle.refusal.proofs.Distinct.{distinct_results}
 use Rattle.refusal.proofs.InOrder.{accepted-all_hold, others_decide}
-use Rattle.sheet.specs.declared.Verdict.TheVariants.{Good, Refused}
 use Rattle.sheet.specs.Sheets.{within_limits, constants_agree, sheet_rules}
 use Rattle.sheet.specs.Laws.{DistinctReplies, GoodPasses, PassesGood, ChecksFirst}
 
 pub distinct_replies : DistinctReplies
-distinct_replies Good Good e = refl
-distinct_replies Good (Refused r) e = absurd (accepted-or_refused _ 0 r e)
-distinct_replies (Refused r) Good e = absurd (accepted-or_refused _ 0 r (sym e))
-distinct_replies (Refused r) (Refused s) e = ap Refused (same_refusal 0 0 r s e)
+distinct_replies a b e = distinct_results 0 _ (λ _ _ _. refl) a b e
 
 pub good-passes : GoodPasses
 good-passes s e = accepted-all_hold 0 (sheet_rules s) [] [] e

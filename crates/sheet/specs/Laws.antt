@@ -1,25 +1,24 @@
 -- The laws of sheets that the other crates go by. Each is proved in proofs/, in the file that its comment names.
-use Rattle.std.specs.Prelude.{true, ◌≡◌, ◌⊎◌, List, ◌++◌, ℕ, ℤ, pos, neg_ℤ, ◌+ℤ◌, ◌-ℤ◌, ◌*ℤ◌, ◌≤ℤ◌, ◌<ℤ◌}
+use Rattle.std.specs.Prelude.{true, ◌≡◌, ◌⊎◌, List, ◌++◌, ℕ, ℤ, pos, neg_ℤ, ◌+ℤ◌, ◌-ℤ◌, ◌*ℤ◌, ◌≤ℤ◌, ◌<ℤ◌, Result, Ok}
 use Rattle.arith.specs.Bounds.{Within, Size}
+use Rattle.refusal.specs.declared.Refusal.{Refusal}
 use Rattle.refusal.specs.declared.Refusal.TheVariants.{SheetLimit, SheetConstants}
 use Rattle.refusal.specs.Numbers.{Reply, refused}
 use Rattle.refusal.specs.Rules.{Rule, in_order}
 use Rattle.trig.specs.Trig.{ONE}
 use Rattle.sheet.specs.declared.Sheet.{Sheet}
-use Rattle.sheet.specs.declared.Verdict.{Verdict}
-use Rattle.sheet.specs.declared.Verdict.TheVariants.{Good}
 use Rattle.sheet.specs.Sheets.{f1, f2, f0, m0, fs, fn, w, n, g, within_limits, sheet_rules, passes_checks, check_reply, reply_of, shifted, offset_of, on_sheet}
 
--- two verdicts never share a number, so that the contract fixes the verdict (Answers)
+-- two answers to a check never share a number, so that the contract fixes the answer (Answers)
 abbrev pub DistinctReplies : Type 0
-DistinctReplies = (a b : Verdict) → reply_of a ≡ reply_of b → a ≡ b
+DistinctReplies = (a b : Result Unit Refusal) → reply_of a ≡ reply_of b → a ≡ b
 
--- the verdict is Good exactly where the sheet passes its checks (Answers)
+-- it is accepted exactly where the sheet passes its checks (Answers)
 abbrev pub GoodPasses : Type 0
-GoodPasses = (s : Sheet) → reply_of Good ≡ check_reply s → passes_checks s ≡ true
+GoodPasses = (s : Sheet) → reply_of (Ok tt) ≡ check_reply s → passes_checks s ≡ true
 
 abbrev pub PassesGood : Type 0
-PassesGood = (s : Sheet) → passes_checks s ≡ true → check_reply s ≡ reply_of Good
+PassesGood = (s : Sheet) → passes_checks s ≡ true → check_reply s ≡ reply_of (Ok tt)
 
 -- with other rules behind them, the checks refuse with 4 or with 5, or the others decide (Answers)
 abbrev pub ChecksFirst : Type 0

@@ -1,16 +1,15 @@
 -- Document 01, 'Units and the sheet'; and of 'From globe to map' the offset from the central meridian and what is on the sheet.
 -- A unit is a millionth of a degree of arc; map coordinates are in the same unit. `le_z` and `lt_z` are the tests of ≤ and <; `cone_angle_of n a` is the quotient n × angle(a) / ONE.
-use Rattle.std.specs.Prelude.{Bool, cond, ◌&&◌, List, [], ◌∷◌, ℤ, pos, neg_ℤ, ◌+ℤ◌, ◌-ℤ◌}
+use Rattle.std.specs.Prelude.{Bool, cond, ◌&&◌, List, [], ◌∷◌, ℤ, pos, neg_ℤ, ◌+ℤ◌, ◌-ℤ◌, Result}
 use Rattle.std.specs.Int.Signed.{le_z, lt_z}
 use Rattle.arith.specs.Bounds.{is_within, size_up_to}
+use Rattle.refusal.specs.declared.Refusal.{Refusal}
 use Rattle.refusal.specs.declared.Refusal.TheVariants.{SheetLimit, SheetConstants}
-use Rattle.refusal.specs.Numbers.{Reply, accepted, refused}
+use Rattle.refusal.specs.Numbers.{Reply, accepted, reply_by}
 use Rattle.refusal.specs.Rules.{Rule, ◌else-refuse◌, in_order, all_hold}
 use Rattle.trig.specs.Trig.{ONE, angle_of, sine_of, cosine_of}
 use Rattle.cone.specs.Cone.{cone_angle_of}
 use Rattle.sheet.specs.declared.Sheet.{Sheet}
-use Rattle.sheet.specs.declared.Verdict.{Verdict}
-use Rattle.sheet.specs.declared.Verdict.TheVariants.{Good, Refused}
 
 -- A sheet's nine numbers, in this order: first parallel f1, second parallel f2, origin latitude f0, central meridian m0, south edge fs, north edge fn,
 -- half-width w, cone constant n (in ONEths), radius constant g (units).
@@ -96,10 +95,9 @@ passes_checks s = all_hold (sheet_rules s)
 abbrev pub check_reply : Sheet → Reply
 check_reply s = in_order 0 (sheet_rules s) (accepted [])
 
--- the number that a verdict stands for
-abbrev pub reply_of : Verdict → Reply
-reply_of Good = accepted []
-reply_of (Refused r) = refused 0 r
+-- the number that the answer to a check stands for
+abbrev pub reply_of : Result Unit Refusal → Reply
+reply_of = reply_by 0 (λ _. [])
 
 -- a, shifted by 360,000,000 into -180,000,000 up to, not including, 180,000,000: one shift is enough where a lies in -540,000,000 ≤ a < 540,000,000 (Laws: ShiftedRange, ShiftedTurns)
 unfoldable pub shifted : ℤ → ℤ

@@ -5,13 +5,15 @@
 
 #![tactic(auto)]
 
-ghost use Rattle.std.specs.Prelude.{◌≡◌, true, ◌≤◌, pos};
+ghost use Rattle.std.specs.Prelude.{◌≡◌, true, [], ◌≤◌, pos, IfOk};
 ghost use Rattle.arith.specs.Bounds.{Size};
+ghost use Rattle.refusal.specs.Numbers.{reply_by};
 ghost use Rattle.trig.specs.Trig.{angle_of, cosine_of};
-ghost use Rattle.sheet.specs.Sheets.{blank_sheet, within_limits, cone_agrees, radius_agrees, constants_agree, check_reply, reply_of, shifted, offset_of, on_sheet};
+ghost use Rattle.sheet.specs.Sheets.{blank_sheet, passes_checks, within_limits, cone_agrees, radius_agrees, constants_agree, check_reply, reply_of, shifted, offset_of, on_sheet};
 
+use cone::Cone;
 use refusal::Refusal;
-use trig::ONE;
+use trig::{ONE, Radians};
 
 // The constants may differ from what the parallels give by this, in ONEths.
 const TOLERANCE: u32 = 32;
@@ -54,26 +56,47 @@ pub fn blank() -> Sheet
     }
 }
 
-// What check answers.
+// A sheet that passes its checks.
 #[derive(Clone, Copy)]
-pub enum Verdict {
-    Good,
-    Refused(Refusal),
+pub struct CheckedSheet {
+    pub sheet: Sheet,
+    pub ghost passes: { passes_checks sheet ≡ true },
 }
 
-// Whether the sheet is within its limits (else refusal 4) and its constants agree with its parallels (else 5).
-pub fn check(sheet: Sheet) -> Verdict
+impl CheckedSheet {
+    // The sheet, if it is within its limits (else refusal 4) and its constants agree with its parallels (else 5).
+    #[tactic(auto, unfolding(crate::specs::Sheets::sheet_rules))]
+    pub fn new(sheet: Sheet) -> Result<CheckedSheet, Refusal>
+        ensures reply { reply_by 0 (λ _. []) result ≡ check_reply sheet }
+        ensures sheet { IfOk result (λ checked. checked.sheet ≡ sheet) }
+    {
+        if !within_limits(sheet) {
+            return Err(Refusal::SheetLimit);
+        }
+        if !constants_agree(sheet) {
+            return Err(Refusal::SheetConstants);
+        }
+        Ok(CheckedSheet { sheet })
+    }
+
+    // The cone that the sheet is drawn on.
+    pub fn cone(self) -> Cone
+        ensures constant_value { result.constant ≡ self.sheet.cone_constant }
+        ensures half_width_value { result.half_width ≡ self.sheet.half_width }
+    {
+        Cone {
+            constant: self.sheet.cone_constant,
+            half_width: self.sheet.half_width,
+        }
+    }
+}
+
+// Whether the sheet passes its checks: 4, 5.
+pub fn check(sheet: Sheet) -> Result<(), Refusal>
     ensures { reply_of result ≡ check_reply sheet }
 {
-    if within_limits(sheet) {
-        if constants_agree(sheet) {
-            Verdict::Good
-        } else {
-            Verdict::Refused(Refusal::SheetConstants)
-        }
-    } else {
-        Verdict::Refused(Refusal::SheetLimit)
-    }
+    CheckedSheet::new(sheet)?;
+    Ok(())
 }
 
 // The four lines of limits.
@@ -122,7 +145,8 @@ fn cone_agrees(n: u32, f1: i64, f2: i64) -> bool
         let fall = cosine_at(f1) - cosine_at(f2);
         trig::size_up_to(cone::cone_angle_unchecked(n, f2 - f1) - fall, TOLERANCE)
     } else {
-        let sine = trig::sine_unchecked(trig::angle_unchecked(f1));
+        let t = trig::angle_unchecked(f1);
+        let sine = Radians { t }.sine();
         trig::size_up_to(n as i64 - sine, TOLERANCE)
     }
 }
@@ -142,7 +166,8 @@ fn cosine_at(f: i64) -> i64
     requires { Size (pos 80000000) f }
     ensures { result ≡ cosine_of (angle_of f) }
 {
-    trig::cosine_unchecked(trig::angle_unchecked(f))
+    let t = trig::angle_unchecked(f);
+    Radians { t }.cosine()
 }
 
 // A difference of two longitudes, or a longitude plus an offset, shifted once by 360 degrees where it is not from -180 up to, not

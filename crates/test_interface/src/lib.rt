@@ -7,9 +7,9 @@
 
 #![tactic(auto)]
 
-ghost use Rattle.std.specs.Prelude.{◌≡◌, [], pos, length};
+ghost use Rattle.std.specs.Prelude.{◌≡◌, [], ◌∷◌, pos, length};
 ghost use Rattle.arith.specs.Bounds.{Size};
-ghost use Rattle.refusal.specs.Numbers.{number_of};
+ghost use Rattle.refusal.specs.Numbers.{number_of, reply_by};
 ghost use Rattle.trig.specs.Trig.{reply_of, angle_reply, sine_reply, cosine_reply, root_reply};
 ghost use Rattle.sheet.specs.Sheets as sheets;
 ghost use Rattle.sheet.specs.Sheets.{check_reply, on_sheet};
@@ -25,16 +25,12 @@ ghost use Rattle.lookup.specs.Lookups.{lookup_reply_of, place_at_reply, nearest_
 ghost use Rattle.within_reach.specs.Lists.{places_after, list_reply, list_reply_of};
 ghost use Rattle.test_interface.specs.Stored.{sheet_with, sheet_numbers, state_with, state_numbers, place_numbers, reply, wholes, file_out, file_out_of, lookup_out, lookup_out_of, step_out, step_out_of, offset_taken, offset_reply};
 
-use atlas::WriteAnswer;
-use atlas_file::{FileAnswer, Found, State, StepAnswer};
-use conic::{GlobeAnswer, MapAnswer};
-use lookup::{Lookup, LookupAnswer};
-use nearest::NearestAnswer;
+use atlas_file::{Advance, Atlas, FileRefusal, Found, State};
+use cone::{Cone, ConePoint};
+use conic::{MapPoint, Position};
 use place::Place;
 use refusal::Refusal;
-use sheet::{Sheet, Verdict};
-use trig::Answer;
-use within_reach::ListAnswer;
+use sheet::Sheet;
 
 #[unsafe(no_mangle)]
 pub extern "C" fn melgoweth_test_angle(a: i64, out: &mut [i64; 1]) -> u64
@@ -243,7 +239,7 @@ pub extern "C" fn melgoweth_test_step(
         room: room,
     };
     let answer = atlas_file::step(bytes, state);
-    store_step(answer, record, sheet, place, name, next, next_sheet)
+    store_step(state, answer, record, sheet, place, name, next, next_sheet)
 }
 
 // out: the position; so in the next.
@@ -258,7 +254,7 @@ pub extern "C" fn melgoweth_test_nearest(
     ensures { reply result (wholes out.new) ≡ nearest_reply table.now x y reach }
 {
     let answer = nearest::nearest(table, x, y, reach);
-    store_position(answer, out)
+    store_size(answer, out)
 }
 
 #[unsafe(no_mangle)]
@@ -271,7 +267,7 @@ pub extern "C" fn melgoweth_test_nearest_in_usual_reach(
     ensures { reply result (wholes out.new) ≡ nearest_reply table.now x y usual_reach }
 {
     let answer = nearest::nearest_in_usual_reach(table, x, y);
-    store_position(answer, out)
+    store_size(answer, out)
 }
 
 // out: the count.
@@ -287,7 +283,7 @@ pub extern "C" fn melgoweth_test_places_in_reach(
     ensures { (reply result (wholes out.new) ≡ list_reply table.now x y reach (length found.old)) × (found.new ≡ places_after table.now x y reach found.old) }
 {
     let answer = within_reach::places_in_reach(table, x, y, reach, found);
-    store_count(answer, out)
+    store_size(answer, out)
 }
 
 // out: the file's length.
@@ -310,7 +306,7 @@ pub extern "C" fn melgoweth_test_write(
 {
     let sheet = sheet_of(f1, f2, f0, m0, fs, fn_, w, n, g);
     let answer = atlas::write(sheet, table, buffer);
-    store_length(answer, out)
+    store_size(answer, out)
 }
 
 // numbers: the refusal's offset, the position; so in the next.
@@ -347,19 +343,23 @@ pub extern "C" fn melgoweth_test_nearest_place(
     )
 }
 
-// The offset of a map point where n, x, v and w are in the ranges that cone::offset_unchecked asks for, 12 outside.
-fn offset(n: u32, x: i64, v: i64, w: u32) -> Answer
+// The offset of a map point where n, x, v and w are in the ranges that a Cone and a ConePoint ask for, 12 outside.
+#[tactic(auto, unfolding(crate::specs::Stored::offset_taken, trig::specs::Trig::offered))]
+fn offset(n: u32, x: i64, v: i64, w: u32) -> Result<i64, Refusal>
     ensures { reply_of result ≡ offset_reply n x v w }
 {
-    if offset_taken(n, x, v, w) {
-        let rise = cone::least_rise_unchecked(n, w);
-        Answer::Value(cone::offset_unchecked(n, x, v, w, rise))
-    } else {
-        Answer::Refused(Refusal::OutOfRange)
+    if !offset_taken(n, x, v, w) {
+        return Err(Refusal::OutOfRange);
     }
+    let cone = Cone {
+        constant: n,
+        half_width: w,
+    };
+    Ok(cone.offset_unchecked(ConePoint { x, v }, cone.least_rise()))
 }
 
 // Whether they are in these ranges.
+#[tactic(auto, unfolding(crate::specs::Stored::offset_taken))]
 fn offset_taken(n: u32, x: i64, v: i64, w: u32) -> bool
     ensures { result ≡ offset_taken n x v w }
 {
@@ -368,27 +368,30 @@ fn offset_taken(n: u32, x: i64, v: i64, w: u32) -> bool
     cone & point
 }
 
+// As the C interface of the tests gives it.
 fn number(r: Refusal) -> u64
     ensures { result ≡ number_of r }
 {
     refusal::number(r) as u64
 }
 
-fn verdict_number(verdict: Verdict) -> u64
+fn verdict_number(verdict: Result<(), Refusal>) -> u64
     ensures { reply result [] ≡ sheets.reply_of verdict }
 {
     match verdict {
-        Verdict::Good => 0,
-        Verdict::Refused(r) => number(r),
+        Ok(()) => 0,
+        Err(r) => number(r),
     }
 }
 
+// A number of a sheet or a place, as an out array holds it.
 fn wide(a: i32) -> i64
     ensures { result ≡ a }
 {
     a as i64
 }
 
+// A sheet of the nine numbers that the C interface of the tests takes.
 fn sheet_of(f1: i32, f2: i32, f0: i32, m0: i32, fs: i32, fn_: i32, w: u32, n: u32, g: i32) -> Sheet
     ensures { result ≡ sheet_with f1 f2 f0 m0 fs fn_ w n g }
 {
@@ -405,50 +408,63 @@ fn sheet_of(f1: i32, f2: i32, f0: i32, m0: i32, fs: i32, fn_: i32, w: u32, n: u3
     }
 }
 
-// The functions that follow store an answer in out arrays, or a part of one; of an answer they give the refusal's number.
+// The functions that follow store an answer in out arrays, or a part of one; of an answer they give the refusal's number. One for each type is
+// plainer than one for all, which would take a closure for the values and a lemma at each call.
 
-fn store_value(answer: Answer, out: &mut [i64; 1]) -> u64
-    ensures { reply result out.new ≡ reply_of answer }
+fn store_size(answer: Result<usize, Refusal>, out: &mut [u64; 1]) -> u64
+    ensures { reply result (wholes out.new) ≡ reply_by 1 (λ size. pos size ∷ []) answer }
 {
     match answer {
-        Answer::Value(v) => {
-            *out = [v];
+        Ok(size) => {
+            *out = [size as u64];
             0
         }
-        Answer::Refused(r) => {
+        Err(r) => {
             *out = [0];
             number(r)
         }
     }
 }
 
-fn store_point(answer: MapAnswer, out: &mut [i64; 2]) -> u64
+fn store_value(answer: Result<i64, Refusal>, out: &mut [i64; 1]) -> u64
+    ensures { reply result out.new ≡ reply_of answer }
+{
+    match answer {
+        Ok(v) => {
+            *out = [v];
+            0
+        }
+        Err(r) => {
+            *out = [0];
+            number(r)
+        }
+    }
+}
+
+fn store_point(answer: Result<MapPoint, Refusal>, out: &mut [i64; 2]) -> u64
     ensures { reply result out.new ≡ map_reply_of answer }
 {
     match answer {
-        MapAnswer::Point { x, y } => {
-            *out = [x, y];
+        Ok(point) => {
+            *out = [point.x, point.y];
             0
         }
-        MapAnswer::Refused(r) => {
+        Err(r) => {
             *out = [0, 0];
             number(r)
         }
     }
 }
 
-fn store_globe_position(answer: GlobeAnswer, out: &mut [i64; 2]) -> u64
+fn store_globe_position(answer: Result<Position, Refusal>, out: &mut [i64; 2]) -> u64
     ensures { reply result out.new ≡ globe_reply_of answer }
 {
     match answer {
-        GlobeAnswer::Position {
-            latitude,
-            longitude,
-        } => {
-            *out = [latitude, longitude];
+        Ok(position) => {
+            *out = [position.latitude, position.longitude];
             0
         }
-        GlobeAnswer::Refused(r) => {
+        Err(r) => {
             *out = [0, 0];
             number(r)
         }
@@ -485,25 +501,26 @@ fn store_place(place: Place, out: &mut [i64; 5], name: &mut [u8; 16])
     *name = bytes;
 }
 
-fn store_file(answer: FileAnswer, numbers: &mut [u64; 2], out: &mut [i64; 9]) -> u64
+fn store_file(answer: Result<Atlas, FileRefusal>, numbers: &mut [u64; 2], out: &mut [i64; 9]) -> u64
     ensures { file_out result numbers.new out.new ≡ file_out_of (file_reply_of answer) }
 {
     match answer {
-        FileAnswer::Atlas { count, sheet } => {
-            *numbers = [0, count as u64];
-            store_sheet(sheet, out);
+        Ok(atlas) => {
+            *numbers = [0, atlas.count as u64];
+            store_sheet(atlas.sheet, out);
             0
         }
-        FileAnswer::Refused { refusal, offset } => {
-            *numbers = [offset as u64, 0];
+        Err(why) => {
+            *numbers = [why.offset as u64, 0];
             store_sheet(sheet::blank(), out);
-            number(refusal)
+            number(why.refusal)
         }
     }
 }
 
 fn store_step(
-    answer: StepAnswer,
+    state: State,
+    answer: Result<Advance, FileRefusal>,
     record: &mut [u64; 3],
     sheet: &mut [i64; 9],
     place: &mut [i64; 5],
@@ -511,31 +528,38 @@ fn store_step(
     next: &mut [u64; 5],
     next_sheet: &mut [i64; 9],
 ) -> u64
-    ensures { step_out result «record».new sheet.new place.new name.new next.new next_sheet.new ≡ step_out_of (step_reply_of answer) }
+    ensures { step_out result «record».new sheet.new place.new name.new next.new next_sheet.new ≡ step_out_of (step_reply_of state answer) }
 {
-    let found = answer.found;
-    store_place(answer.place, place, name);
-    store_state(answer.next, next, next_sheet);
-    match found {
-        Found::Sheet(s) => {
-            *record = [0, 1, 0];
-            store_sheet(s, sheet);
-            0
+    match answer {
+        Ok(advance) => {
+            store_state(advance.next, next, next_sheet);
+            match advance.found {
+                Found::Sheet(s) => {
+                    *record = [0, 1, 0];
+                    store_sheet(s, sheet);
+                    store_place(place::blank(), place, name);
+                    0
+                }
+                Found::Place(p) => {
+                    *record = [0, 2, 0];
+                    store_sheet(sheet::blank(), sheet);
+                    store_place(p, place, name);
+                    0
+                }
+                Found::End { count } => {
+                    *record = [0, 3, count as u64];
+                    store_sheet(sheet::blank(), sheet);
+                    store_place(place::blank(), place, name);
+                    0
+                }
+            }
         }
-        Found::Place => {
-            *record = [0, 2, 0];
+        Err(why) => {
+            *record = [why.offset as u64, 0, 0];
             store_sheet(sheet::blank(), sheet);
-            0
-        }
-        Found::End { count } => {
-            *record = [0, 3, count as u64];
-            store_sheet(sheet::blank(), sheet);
-            0
-        }
-        Found::Refused { refusal, offset } => {
-            *record = [offset as u64, 0, 0];
-            store_sheet(sheet::blank(), sheet);
-            number(refusal)
+            store_place(place::blank(), place, name);
+            store_state(state, next, next_sheet);
+            number(why.refusal)
         }
     }
 }
@@ -553,69 +577,24 @@ fn store_state(state: State, out: &mut [u64; 5], sheet: &mut [i64; 9])
     store_sheet(state.sheet, sheet);
 }
 
-fn store_position(answer: NearestAnswer, out: &mut [u64; 1]) -> u64
-    ensures { reply result (wholes out.new) ≡ nearest_reply_of answer }
-{
-    match answer {
-        NearestAnswer::At { position } => {
-            *out = [position as u64];
-            0
-        }
-        NearestAnswer::Refused(r) => {
-            *out = [0];
-            number(r)
-        }
-    }
-}
-
-fn store_count(answer: ListAnswer, out: &mut [u64; 1]) -> u64
-    ensures { reply result (wholes out.new) ≡ list_reply_of answer }
-{
-    match answer {
-        ListAnswer::Listed { count } => {
-            *out = [count as u64];
-            0
-        }
-        ListAnswer::Refused(r) => {
-            *out = [0];
-            number(r)
-        }
-    }
-}
-
-fn store_length(answer: WriteAnswer, out: &mut [u64; 1]) -> u64
-    ensures { reply result (wholes out.new) ≡ write_reply_of answer }
-{
-    match answer {
-        WriteAnswer::Written { length } => {
-            *out = [length as u64];
-            0
-        }
-        WriteAnswer::Refused(r) => {
-            *out = [0];
-            number(r)
-        }
-    }
-}
-
 fn store_lookup(
-    answer: LookupAnswer,
+    answer: Result<lookup::Found, FileRefusal>,
     numbers: &mut [u64; 2],
     place: &mut [i64; 5],
     name: &mut [u8; 16],
 ) -> u64
     ensures { lookup_out result numbers.new place.new name.new ≡ lookup_out_of (lookup_reply_of answer) }
 {
-    let found = answer.found;
-    store_place(answer.place, place, name);
-    match found {
-        Lookup::Place { position } => {
-            *numbers = [0, position as u64];
+    match answer {
+        Ok(found) => {
+            store_place(found.place, place, name);
+            *numbers = [0, found.position as u64];
             0
         }
-        Lookup::Refused { refusal, offset } => {
-            *numbers = [offset as u64, 0];
-            number(refusal)
+        Err(why) => {
+            store_place(place::blank(), place, name);
+            *numbers = [why.offset as u64, 0];
+            number(why.refusal)
         }
     }
 }

@@ -3,13 +3,16 @@ use mathlib.Core.Bool.{Bool, true, false, cond, ◌&&◌}
 use mathlib.Mathlib.Data.Bool.Basic.{eq-false_of_not-eq-true}
 use mathlib.Core.List.{List, [], ◌∷◌}
 use mathlib.Core.Path.{◌≡◌, refl, sym, ap, ◌∙◌}
-use Prim.Native.Nat.{ℕ, suc, ◌-◌, ◌≤◌, ◌<◌, min}
+use Prim.Native.Nat.{ℕ, suc, ◌-◌, ◌≤◌, ◌<◌}
 use native.Mathlib.Omega.{arith}
-use borrow.Author.Tests.{ltb-true, ltb-false}
+use borrow.Author.Tests.{ltb-true, ltb-false, ne_eqb}
 use lib.Dec.{ltb, eqb}
 use lib.IntN.{ℤ, pos, neg_ℤ, nat_abs}
-use lib.ListN.{length, length-take, length-drop, get_or, take, drop, drop_of_length-le}
+use lib.ListN.{length, length-drop, take, drop, drop_of_length-le}
 use lib.Seq.{take_all}
+use Rattle.std.specs.Prelude.{Option, Some, None}
+use Rattle.std.specs.List.{position_or_len}
+use Rattle.std.specs.Option.{MatchOption, option_and_then}
 use Rattle.arith.proofs.Choose.{by_test}
 use Rattle.arith.specs.Bounds.{size_up_to}
 use Rattle.arith.proofs.Order.{abs_neg, abs_size, size_abs, within_true, true_within}
@@ -20,7 +23,7 @@ use Rattle.conic.specs.MapToGlobe.{point_limit}
 use Rattle.text.specs.Decimals.{minus, is_numeral, is_number, spelled_from, spelled}
 use Rattle.text.specs.Lines.{space}
 use Rattle.text.specs.TapLines.{before_space, after_space, line_reply_of}
-use Rattle.text.specs.Coordinates.{valued, unread, coordinate_of, point_of, sized_coordinate, too_large, numeral_of}
+use Rattle.text.specs.Coordinates.{coordinate_of, point_of, sized_coordinate, too_large, numeral_of}
 
 -- the size of a number with its sign
 size_of : (negative : Bool) (v : ℕ) → nat_abs (cond negative (neg_ℤ (pos v)) (pos v)) ≡ v
@@ -35,7 +38,7 @@ past-limit : (z : ℤ) → too_large ≤ nat_abs z → size_up_to point_limit z 
 past-limit z h = eq-false_of_not-eq-true {b = size_up_to point_limit z} (λ t. omega (arith, size_abs {z = z} {m = point_limit} (within_true t)))
 
 pub sized_is : (negative : Bool) (bs : List ℕ) → let z = cond negative (neg_ℤ (pos (spelled_from 0 bs))) (pos (spelled_from 0 bs)) in
-    sized_coordinate negative (numeral_of bs) ≡ cond (is_numeral bs && size_up_to point_limit z) (valued z) unread
+    option_and_then (sized_coordinate negative) (numeral_of bs) ≡ cond (is_numeral bs && size_up_to point_limit z) (Some z) None
 unfolding sized_coordinate numeral_of
 sized_is negative bs =
     let v = spelled_from 0 bs in
@@ -44,32 +47,19 @@ sized_is negative bs =
     (λ t.
     rw t
     (by_test (ltb v too_large)
-    (λ below.
-    let h = ltb-true v too_large below in
-    let m : min v too_large ≡ v = omega arith in
-    rw (m, below, within_limit z (rw (size_of negative v) h)))
-    (λ not-below.
-    let h = ltb-false v too_large not-below in
-    let m : min v too_large ≡ too_large = omega arith in
-    rw (m, past-limit z (rw (size_of negative v) h)))))
+    (λ below. let h = ltb-true v too_large below in rw (below, below, within_limit z (rw (size_of negative v) h)))
+    (λ not-below. let h = ltb-false v too_large not-below in rw (not-below, past-limit z (rw (size_of negative v) h)))))
     (λ f. rw f)
 
-by_first : (p q : Bool) (x y : ℤ) (c : Bool) →
-    cond (cond c p q && size_up_to point_limit (cond c x y)) (valued (cond c x y)) unread ≡ cond c (cond (p && size_up_to point_limit x) (valued x) unread) (cond (q && size_up_to point_limit y) (valued y) unread)
-by_first p q x y true = refl
-by_first p q x y false = refl
-
 -- a coordinate, by its first byte
-pub none_read : (bs : List ℕ) → length bs ≡ 0 → coordinate_of bs ≡ unread
-unfolding coordinate_of is_number
-none_read [] h = refl
-none_read (b ∷ bs) h = absurd (omega arith)
-
-pub first_read : (bs : List ℕ) → 0 < length bs →
-    coordinate_of bs ≡ cond (eqb (get_or bs 0 0) minus) (sized_coordinate true (numeral_of (drop 1 bs))) (sized_coordinate false (numeral_of bs))
+pub minus_read : (bs : List ℕ) → coordinate_of (minus ∷ bs) ≡ option_and_then (sized_coordinate true) (numeral_of bs)
 unfolding coordinate_of is_number spelled
-first_read [] h = absurd (omega arith)
-first_read (b ∷ bs) h = rw (sized_is true bs, sized_is false (b ∷ bs)) (by_first (is_numeral bs) (is_numeral (b ∷ bs)) (neg_ℤ (pos (spelled_from 0 bs))) (pos (spelled_from 0 (b ∷ bs))) (eqb b minus))
+minus_read bs = sym (sized_is true bs)
+
+pub no_minus_read : (bs : List ℕ) → ((rest : List ℕ) → bs ≡ minus ∷ rest → ⊥) → coordinate_of bs ≡ option_and_then (sized_coordinate false) (numeral_of bs)
+unfolding coordinate_of is_number spelled numeral_of is_numeral
+no_minus_read [] h = refl
+no_minus_read (b ∷ bs) h = rw (ne_eqb b minus (λ q. h bs (ap (λ (first : ℕ). first ∷ bs) q))) (sym (sized_is false (b ∷ bs)))
 
 -- the rest of a text from a position on, as the code takes it
 pub rest_is : (k : ℕ) (l : List ℕ) → take (length l - k) (drop k l) ≡ drop k l
@@ -80,9 +70,6 @@ pub before_is : (l : List ℕ) → take (length (before_space l)) l ≡ before_s
 before_is [] = refl
 before_is (b ∷ bs) =
     by_test (eqb b space) (λ t. rw t) (λ f. rw (f, before_is bs))
-
-pub before_short : (l : List ℕ) → length (before_space l) ≤ length l
-before_short l = omega (arith, ap length (before_is l), length-take (length (before_space l)) l)
 
 pub after_is : (l : List ℕ) → drop (suc (length (before_space l))) l ≡ after_space l
 after_is [] = refl
@@ -95,6 +82,19 @@ after_is (b ∷ bs) =
 pub none_after : (l : List ℕ) → length l ≤ length (before_space l) → after_space l ≡ []
 none_after l h = sym (after_is l) ∙ drop_of_length-le l {i = suc (length (before_space l))} (omega arith)
 
+position_is : (l : List ℕ) → position_or_len (λ b. eqb b space) l ≡ length (before_space l)
+position_is [] = refl
+position_is (b ∷ bs) = by_test (eqb b space) (λ t. rw t) (λ f. rw f (omega (arith, position_is bs)))
+
+-- so where the first space is found, so many bytes stand before it
+pub space_found : (l : List ℕ) (r : Option ℕ) → let k = position_or_len (λ b. eqb b space) l in r ≡ cond (ltb k (length l)) (Some k) None →
+    MatchOption r (after_space l ≡ []) (λ n. (n < length l) × (n ≡ length (before_space l)))
+space_found l r e =
+    let k = position_or_len (λ b. eqb b space) l in
+    by_test (ltb k (length l))
+    (λ t. let f = rw t at e in rw f (ltb-true k (length l) t, position_is l))
+    (λ f. let g = rw f at e in rw g (none_after l (omega (arith, ltb-false k (length l) f, position_is l))))
+
 -- a line with a coordinate that is none
 pub none_of : (p : Bool) (reply other : Reply) → cond (p && false) reply other ≡ other
 none_of true reply other = refl
@@ -102,7 +102,7 @@ none_of false reply other = refl
 
 -- a line whose two coordinates are read
 pub both_read : (p q r s : Bool) (x y : ℤ) →
-    line_reply_of (point_of (cond (p && q) (valued x) unread) (cond (r && s) (valued y) unread))
+    line_reply_of (point_of (cond (p && q) (Some x) None) (cond (r && s) (Some y) None))
     ≡ in_order 2 (((p && r) else-refuse OutOfRange) ∷ ((q && s) else-refuse OutOfRange) ∷ []) (accepted (x ∷ y ∷ []))
 both_read false q r s x y = refl
 both_read true false false s x y = refl

@@ -16,6 +16,12 @@ turn : (k n : ℕ) → digits_up_to (suc k) n ≡ cond (ltb n 10) (digit n ∷ [
 unfolding digits_up_to
 turn k n = as_choice (ltb n 10) _ _
 
+pub first_digit : (k n : ℕ) → n < 10 → digits_up_to (suc k) n ≡ digit n ∷ []
+first_digit k n h = rw (turn k n, lt-ltb n 10 h)
+
+pub digit_more : (k n : ℕ) → 10 ≤ n → digits_up_to (suc k) n ≡ digits_up_to k (n / 10) ++ (digit (n % 10) ∷ [])
+digit_more k n h = rw (turn k n, le-ltb n 10 h)
+
 -- a bound above the number is enough, and a larger one gives no more
 same_bounds : (j k n : ℕ) → n < j → n < k → digits_up_to j n ≡ digits_up_to k n
 same_bounds zero k n a b = absurd (omega arith)
@@ -28,11 +34,11 @@ same_bounds (suc j) (suc k) n a b =
 
 pub one_digit : OneDigit
 unfolding decimal
-one_digit n h = rw (turn n n, lt-ltb n 10 h)
+one_digit n = first_digit n n
 
 pub more_digits : MoreDigits
 unfolding decimal
-more_digits n h = rw (turn n n, le-ltb n 10 h, same_bounds n (suc (n / 10)) (n / 10) (omega arith) (omega arith))
+more_digits n h = rw (digit_more n n h, same_bounds n (suc (n / 10)) (n / 10) (omega arith) (omega arith))
 
 -- what holds of one digit, and of a number that has a digit more, holds of every number
 pub by_digits : (P : ℕ → List ℕ → Type 0) → ((n : ℕ) → n < 10 → P n (digit n ∷ [])) → ((n : ℕ) (ds : List ℕ) → 10 ≤ n → P (n / 10) ds → P n (ds ++ (digit (n % 10) ∷ []))) → (n : ℕ) → P n (decimal n)

@@ -10,6 +10,8 @@ use lib.Dec.{leb}
 use lib.IntN.{ℤ, pos, negsuc}
 use lib.ListN.{length, length-append, take}
 use lib.Seq.{length-take-le, take_all}
+use mir.Syntax.{w32}
+use mir.Val.{SFits}
 use Rattle.arith.proofs.Choose.{by_test}
 use Rattle.arith.specs.Bounds.{Size, size_up_to}
 use Rattle.arith.proofs.Fits.{fits, within}
@@ -21,7 +23,7 @@ use Rattle.text.specs.Decimals.{minus, decimal, signed, is_digit, are_digits}
 use Rattle.text.specs.Lines.{space}
 use Rattle.text.specs.TapLines.{longest_tap, start_size, before_space, after_space, has_form, x_of, y_of, line_rules, line_reply}
 use Rattle.text.specs.Laws.{TapReadsBack, FirstBytesTell}
-use Rattle.text.proofs.Rows.{long_signed_32}
+use Rattle.text.proofs.Digits.{digits-at_most}
 use Rattle.text.proofs.Spelled.{at_least, spell, reads_back}
 
 -- what stands before and after a space that is the first
@@ -40,6 +42,11 @@ parted : (z : ℤ) (b : List ℕ) → Parted (signed z) b
 unfolding signed
 parted (pos n) b = parted_digits (decimal n) b (spell n).digits
 parted (negsuc n) b = parted_more minus (decimal (suc n)) b (λ q. omega arith) (parted_digits (decimal (suc n)) b (spell (suc n)).digits)
+
+long_signed_32 : {z : ℤ} → SFits w32 z → length (signed z) ≤ 11
+unfolding signed
+long_signed_32 {z = pos n} f = let h = f.sfits in let d = digits-at_most 9 n (omega arith) in omega arith
+long_signed_32 {z = negsuc n} f = let h = f.sfits in let d = digits-at_most 9 (suc n) (omega arith) in omega arith
 
 long : (z : ℤ) → size_up_to point_limit z ≡ true → length (signed z) ≤ 11
 long z e = let h : Size (pos point_limit) z = within_true e in long_signed_32 {z = z} (fits (within h) tt)

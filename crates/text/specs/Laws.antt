@@ -1,9 +1,10 @@
 -- What holds of text. Each is proved in proofs/, in the file that its comment names.
-use Rattle.std.specs.Prelude.{true, List, [], ◌∷◌, ◌++◌, ◌≡◌, ℕ, ◌≤◌, ◌<◌, ◌+◌, ◌/◌, ◌%◌, ◌^◌, ℤ, length, take}
+use Rattle.std.specs.Prelude.{true, List, [], ◌∷◌, ◌++◌, ◌≡◌, ℕ, ◌≤◌, ◌<◌, ◌+◌, ◌/◌, ◌%◌, ◌^◌, ℤ, length, take, Result}
+use Rattle.refusal.specs.declared.Refusal.{Refusal}
 use Rattle.refusal.specs.Numbers.{accepted}
 use Rattle.conic.specs.MapToGlobe.{point_in_range}
-use Rattle.text.specs.declared.Line.{Line}
-use Rattle.text.specs.declared.LineAnswer.{LineAnswer}
+use Rattle.conic.specs.declared.MapPoint.{MapPoint}
+use Rattle.arrayvec.specs.ArrayString.{ArrayString}
 use Rattle.text.specs.Decimals.{digit, decimal, signed, is_number, spelled}
 use Rattle.text.specs.Lines.{space, line_size, text_of, Holds}
 use Rattle.text.specs.TapLines.{start_size, line_reply, line_reply_of}
@@ -23,12 +24,12 @@ DigitsAtMost = (k n : ℕ) → n < 10 ^ (1 + k) → length (decimal n) ≤ 1 + k
 abbrev pub ReadsBack : Type 0
 ReadsBack = (z : ℤ) → (is_number (signed z) ≡ true) × (spelled (signed z) ≡ z)
 
--- a line that holds a text gives it back, and starts within its bytes (Building)
+-- a line that holds a text gives it back, and its text is within its room (Building)
 abbrev pub HeldText : Type 0
-HeldText = (l : Line) (text : List ℕ) → Holds l text → text_of l ≡ text
+HeldText = (l : ArrayString) (text : List ℕ) → Holds l text → text_of l ≡ text
 
 abbrev pub HeldWithin : Type 0
-HeldWithin = (l : Line) (text : List ℕ) → Holds l text → (l.«start» ≤ line_size) × (length l.«bytes» ≡ line_size)
+HeldWithin = (l : ArrayString) (text : List ℕ) → Holds l text → length (text_of l) ≤ line_size
 
 -- a point that is written as a tap's line is read as itself (TapLaws)
 abbrev pub TapReadsBack : Type 0
@@ -40,4 +41,4 @@ FirstBytesTell = (line : List ℕ) → line_reply (take start_size line) ≡ lin
 
 -- two answers never share a number and values, so that the contract fixes the answer (Answers)
 abbrev pub DistinctLineReplies : Type 0
-DistinctLineReplies = (a b : LineAnswer) → line_reply_of a ≡ line_reply_of b → a ≡ b
+DistinctLineReplies = (a b : Result MapPoint Refusal) → line_reply_of a ≡ line_reply_of b → a ≡ b

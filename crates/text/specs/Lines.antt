@@ -1,7 +1,7 @@
 -- Document 01, 'Two programs': the lines that the programs print.
-use Rattle.std.specs.Prelude.{cond, ◌&&◌, List, [], ◌∷◌, ◌++◌, ◌≡◌, ℕ, ◌-◌, ◌≤◌, ltb, leb, ℤ, length, drop, replicate, set}
+use Rattle.std.specs.Prelude.{List, [], ◌∷◌, ◌++◌, ◌≡◌, ℕ, ◌≤◌, ℤ, length}
 use Rattle.place.specs.declared.Place.{Place}
-use Rattle.text.specs.declared.Line.{Line}
+use Rattle.arrayvec.specs.ArrayString.{ArrayString}
 use Rattle.text.specs.Decimals.{minus, decimal, signed}
 
 abbrev pub space : ℕ
@@ -57,25 +57,13 @@ refused_line number = row (refused_word ∷ decimal number ∷ [])
 unfoldable pub crowd_line : (id others : ℕ) → List ℕ
 crowd_line id others = row (decimal id ∷ decimal others ∷ [])
 
--- A `Line` holds a text of up to 64 bytes at its end, zeros before it.
+-- A `Line` has room for a text of up to 64 bytes.
 abbrev pub line_size : ℕ
 line_size = 64
 
-unfoldable pub line_of : (text : List ℕ) → Line
-line_of text = record { «bytes» = replicate (line_size - length text) 0 ++ text; «start» = line_size - length text }
-
-abbrev pub text_of : Line → List ℕ
-text_of l = drop l.«start» l.«bytes»
+abbrev pub text_of : ArrayString → List ℕ
+text_of l = l.bytes
 
 -- a line that holds a text, which it has room for
-abbrev pub Holds : Line → (text : List ℕ) → Type 0
-Holds l text = (length text ≤ line_size) × (l ≡ line_of text)
-
--- a line with a byte more before its text; one that has no room for it stays as it is
-unfoldable pub with_byte : Line → ℕ → Line
-with_byte l b = cond (ltb 0 l.«start» && leb l.«start» line_size) (record { «bytes» = set l.«bytes» (l.«start» - 1) b; «start» = l.«start» - 1 }) l
-
--- and with a text more
-abbrev pub with_text : List ℕ → Line → Line
-with_text [] l = l
-with_text (b ∷ bs) l = with_byte (with_text bs l) b
+abbrev pub Holds : ArrayString → (text : List ℕ) → Type 0
+Holds l text = (length text ≤ line_size) × (text_of l ≡ text)

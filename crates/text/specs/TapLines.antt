@@ -1,11 +1,11 @@
 -- Document 01, 'Two programs': lines of x, one space, y, decimal whole numbers, a leading minus allowed, at most 24 bytes before the newline.
-use Rattle.std.specs.Prelude.{Bool, cond, ◌&&◌, List, [], ◌∷◌, ℕ, ◌+◌, leb, eqb, ℤ, length}
+use Rattle.std.specs.Prelude.{Bool, cond, ◌&&◌, List, [], ◌∷◌, ℕ, ◌+◌, leb, eqb, ℤ, length, Result}
+use Rattle.refusal.specs.declared.Refusal.{Refusal}
 use Rattle.refusal.specs.declared.Refusal.TheVariants.{OutOfRange}
-use Rattle.refusal.specs.Numbers.{Reply, accepted, refused}
+use Rattle.refusal.specs.Numbers.{Reply, accepted, reply_by}
 use Rattle.refusal.specs.Rules.{Rule, ◌else-refuse◌, in_order}
 use Rattle.conic.specs.MapToGlobe.{point_in_range}
-use Rattle.text.specs.declared.LineAnswer.{LineAnswer}
-use Rattle.text.specs.declared.LineAnswer.TheVariants.{Point, Refused}
+use Rattle.conic.specs.declared.MapPoint.{MapPoint}
 use Rattle.text.specs.Decimals.{is_number, spelled}
 use Rattle.text.specs.Lines.{space}
 
@@ -41,9 +41,8 @@ unfoldable pub line_reply : (line : List ℕ) → Reply
 line_reply line = in_order 2 (line_rules line) (accepted (x_of line ∷ y_of line ∷ []))
 
 -- the number and the values that an answer stands for
-abbrev pub line_reply_of : LineAnswer → Reply
-line_reply_of (Point x y) = accepted (x ∷ y ∷ [])
-line_reply_of (Refused r) = refused 2 r
+abbrev pub line_reply_of : Result MapPoint Refusal → Reply
+line_reply_of = reply_by 2 (λ point. point.«x» ∷ point.«y» ∷ [])
 
 -- the first bytes of a line, enough to tell what it is
 abbrev pub start_size : ℕ

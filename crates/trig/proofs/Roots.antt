@@ -5,7 +5,7 @@ use mathlib.Core.Logic.{⊎_elim}
 use Prim.Native.Nat.{ℕ, zero, suc, ◌+◌, ◌*◌, ◌-◌, ◌^◌, ◌≤◌, ◌<◌}
 use native.Mathlib.Nat.{add_assoc, two-pow-succ, mul-le-mul, lt_of_not-le, le_of_suc-le-suc}
 use native.Mathlib.Omega.{arith}
-use borrow.Author.Tests.{leb-true, leb-false, ltb-true, ltb-false}
+use borrow.Author.Tests.{leb-true, leb-false, ltb-true, ltb-false, lt-ltb, le-ltb}
 use lib.Dec.{leb, ltb}
 use lib.IntN.{ℤ, pos, nat_abs, ◌+ℤ◌, ◌-ℤ◌, ◌*ℤ◌}
 use lib.Signed.{◌≤ℤ◌, ◌<ℤ◌, clash_ℤ}
@@ -36,8 +36,8 @@ pub is_root_below : IsRootBelow
 unfolding root_below
 is_root_below q h = bits_below 31 q 0 (omega arith) (omega arith)
 
-pub below_most : (q : ℕ) → q ≤ 2 ^ 60 → root_below q ≤ 2 ^ 30
-below_most q h = le_of_suc-le-suc (lt_of_not-le (λ (l : 2 ^ 30 + 1 ≤ root_below q). omega (arith, mul-le-mul l l, is_root_below q h)))
+pub below_most : (q s : ℕ) → q ≤ 2 ^ 60 → s * s ≤ q → s ≤ 2 ^ 30
+below_most q s h k = le_of_suc-le-suc (lt_of_not-le (λ (l : 2 ^ 30 + 1 ≤ s). omega (arith, mul-le-mul l l)))
 
 -- ---- the rounded root
 
@@ -94,3 +94,18 @@ root_by_off q s range low high =
     } in
     let a = abs_parts q in
     (is_root (nat_abs q) (omega (linear, range.low, a)) (omega (linear, range.high, a))).1 s (subst (λ z. Root z s) (sym (cast_is (within range) tt)) r)
+
+-- the root from below, n, is the root where q - n² ≤ n, else n + 1 is
+pub root_by_below : (q : ℤ) (n : ℕ) → Within (pos 1) (pos root_limit) q → n * n ≤ nat_abs q → nat_abs q < (n + 1) * (n + 1) → pos (rounded n (nat_abs q - n * n)) ≡ pos (root_of (nat_abs q))
+root_by_below q n range low high =
+    let a = abs_parts q in
+    let one : 1 ≤ nat_abs q = omega (linear, range.low, a) in
+    (is_root (nat_abs q) one (omega (linear, range.high, a))).1 _ (rounded-root (nat_abs q) n one (low, high))
+
+pub rounded-up : (s m : ℕ) → s < m → s + 1 ≡ rounded s m
+unfolding rounded
+rounded-up s m h = rw (lt-ltb s m h)
+
+pub rounded-down : (s m : ℕ) → m ≤ s → s ≡ rounded s m
+unfolding rounded
+rounded-down s m h = rw (le-ltb s m h)

@@ -1,14 +1,13 @@
 -- The sizes of angle, sine and cosine; a row's value is of size up to ONE, from each place of the row on. Assumes nothing.
-use mathlib.Core.Path.{refl}
+use mathlib.Core.Path.{◌≡◌, refl}
 use mathlib.Core.Bool.{Bool, true, ◌&&◌}
 use mathlib.Core.Logic.{inl, inr, ⊎_elim}
-use mathlib.Core.List.{List, [], ◌∷◌}
-use Prim.Native.Nat.{ℕ, zero, suc, ◌*◌, ◌≤◌, ◌<◌}
-use native.Mathlib.Nat.{mul-le-mul, le_refl, le_of_suc-le-suc, not-suc-le-zero}
+use mathlib.Core.List.{List, [], ◌∷◌, ◌++◌}
+use Prim.Native.Nat.{ℕ, ◌*◌, ◌≤◌}
+use native.Mathlib.Nat.{mul-le-mul, le_refl}
 use native.Mathlib.Omega.{arith}
 use lib.Dec.{T, lit<}
 use lib.IntN.{ℤ, pos, neg_ℤ, nat_abs, ◌*ℤ◌}
-use lib.ListN.{length, drop, get_or}
 use lib.Signed.{◌≤ℤ◌}
 use mir.Facts.{and_yes}
 use Rattle.arith.specs.Bounds.{Size}
@@ -39,32 +38,32 @@ module _ (z : ℤ) (h : IsSquare z) where
   up_to_one [] = true
   up_to_one (f ∷ fs) = inside_e (neg_ℤ ONE) ONE (value_range (f ∷ fs)).e && up_to_one fs
 
-  drop-size : (fs : List ℕ) (k : ℕ) → T (up_to_one fs) → Size ONE (series_of (drop k fs) z)
+  end-size : (front fs : List ℕ) → T (up_to_one (front ++ fs)) → Size ONE (series_of fs z)
   unfolding value_range
-  drop-size [] zero t = inside_of (value_range []) tt
-  drop-size [] (suc k) t = inside_of (value_range []) tt
-  drop-size (f ∷ fs) zero t = inside_of (value_range (f ∷ fs)) (and_yes (inside_e (neg_ℤ ONE) ONE (value_range (f ∷ fs)).e) (up_to_one fs) t).0
-  drop-size (f ∷ fs) (suc k) t = drop-size fs k (and_yes (inside_e (neg_ℤ ONE) ONE (value_range (f ∷ fs)).e) (up_to_one fs) t).1
+  end-size [] [] t = inside_of (value_range []) tt
+  end-size [] (f ∷ fs) t = inside_of (value_range (f ∷ fs)) (and_yes (inside_e (neg_ℤ ONE) ONE (value_range (f ∷ fs)).e) (up_to_one fs) t).0
+  end-size (f ∷ front) fs t = end-size front fs (and_yes (inside_e (neg_ℤ ONE) ONE (value_range (f ∷ front ++ fs)).e) (up_to_one (front ++ fs)) t).1
 
 -- ---- the two rows
 
--- the value over what is left of a row
-pub series-size : (l : List ℕ) (k : ℕ) (z : ℤ) → IsRow l → IsSquare z → Size ONE (series_of (drop k l) z)
+-- the value over the end of a row
+pub series-size : (front fs : List ℕ) (z : ℤ) → IsRow (front ++ fs) → IsSquare z → Size ONE (series_of fs z)
 unfolding value_range
-series-size l k z e h = ⊎_elim (λ i. rw i (drop-size z h sine_row k tt)) (λ i. rw i (drop-size z h cosine_row k tt)) e
+series-size front fs z e h =
+    let one : (l : List ℕ) → T (up_to_one z h l) → front ++ fs ≡ l → Size ONE (series_of fs z) = λ l t i. end-size z h front fs (rw i t) in
+    ⊎_elim (one sine_row tt) (one cosine_row tt) e
 
 -- what holds of each factor of a list holds of one
 abbrev Each : (ℕ → Type 0) → List ℕ → Type 0
 Each P [] = Unit {0}
 Each P (f ∷ fs) = P f × Each P fs
 
-each_at : (P : ℕ → Type 0) (l : List ℕ) (k : ℕ) → Each P l → k < length l → P (get_or l k 0)
-each_at P [] k e h = absurd (not-suc-le-zero h)
-each_at P (f ∷ fs) zero e h = e.0
-each_at P (f ∷ fs) (suc k) e h = each_at P fs k e.1 (le_of_suc-le-suc h)
+each_at : (P : ℕ → Type 0) (front : List ℕ) (f : ℕ) (fs : List ℕ) → Each P (front ++ f ∷ fs) → P f
+each_at P [] f fs e = e.0
+each_at P (x ∷ front) f fs e = each_at P front f fs e.1
 
-pub factor_at : (l : List ℕ) (k : ℕ) → IsRow l → k < length l → (2 ≤ get_or l k 0) × (get_or l k 0 ≤ 156)
-factor_at l k e h = each_at (λ f. (2 ≤ f) × (f ≤ 156)) l k (⊎_elim (λ i. rw i (omega arith)) (λ i. rw i (omega arith)) e) h
+pub factor_at : (front : List ℕ) (f : ℕ) (fs : List ℕ) → IsRow (front ++ f ∷ fs) → (2 ≤ f) × (f ≤ 156)
+factor_at front f fs e = each_at (λ g. (2 ≤ g) × (g ≤ 156)) front f fs (⊎_elim (λ i. rw i (omega arith)) (λ i. rw i (omega arith)) e)
 
 -- ---- the laws
 
@@ -79,7 +78,7 @@ pub sine-size : SineSize
 unfolding sine_of
 sine-size t h =
     let p = series_of sine_row (square_of t) in
-    let s = series-size sine_row 0 (square_of t) (inl refl) (square_size t h) in
+    let s = series-size [] sine_row (square_of t) (inl refl) (square_size t h) in
     let k : nat_abs t * nat_abs p ≤ nat_abs t * 1073741824 = mul-le-mul (le_refl (nat_abs t)) (size_abs s) in
     abs_size (quot-abs-≤ 1073741824 (lit< tt) (t *ℤ p) (nat_abs t) (omega (arith, k, abs-* t p)))
 
@@ -89,4 +88,4 @@ sine-within t h = let k = size_abs {z = t} {m = sine_limit} h in size_wider (ome
 
 pub cosine-size : CosineSize
 unfolding cosine_of
-cosine-size t h = series-size cosine_row 0 (square_of t) (inr refl) (square_size t h)
+cosine-size t h = series-size [] cosine_row (square_of t) (inr refl) (square_size t h)

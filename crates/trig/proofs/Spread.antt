@@ -51,7 +51,7 @@ nearby_angles t t' h h' near =
     let cosines : Size (pos 26457) (pos 1000 *ℤ (cosine_of t' -ℤ cosine_of t)) = apart (row_from_one s cosine_row (omega arith)) (row_from_one s' cosine_row (omega arith)) in
     let p = series_of sine_row (square_of t) in
     let p' = series_of sine_row (square_of t') in
-    let turn-part = size-* (size_scale (num 20000) near) (series-size sine_row 0 (square_of t') (inl refl) (square_size t' (size_wider (le_z_yes tt) h'))) in
+    let turn-part = size-* (size_scale (num 20000) near) (series-size [] sine_row (square_of t') (inl refl) (square_size t' (size_wider (le_z_yes tt) h'))) in
     let row-part = size-* t_size (apart (row_from_one s sine_row (omega arith)) (row_from_one s' sine_row (omega arith))) in (
       size_step (2 ^ 30) (lit< tt) (t *ℤ p) (t' *ℤ p')
           (size_by (pos 20000) (lt_z_yes tt) (size-+ turn-part row-part) (num (13339 * 2 ^ 30)) refl (ring! (t ∷ t' ∷ p ∷ p' ∷ []) (search quote depth 40) tt)),

@@ -1,12 +1,12 @@
 -- The laws of angle, sine, cosine and root that the other crates go by. Each is proved in proofs/, in the file that its comment names.
-use Rattle.std.specs.Prelude.{◌≡◌, ℕ, ◌+◌, ◌*◌, ◌/◌, ◌^◌, ◌≤◌, ◌<◌, ℤ, pos, neg_ℤ, nat_abs, ◌+ℤ◌, ◌-ℤ◌, ◌*ℤ◌, ◌≤ℤ◌}
+use Rattle.std.specs.Prelude.{◌≡◌, ℕ, ◌+◌, ◌*◌, ◌/◌, ◌^◌, ◌≤◌, ◌<◌, ℤ, pos, neg_ℤ, nat_abs, ◌+ℤ◌, ◌-ℤ◌, ◌*ℤ◌, ◌≤ℤ◌, Result}
 use Rattle.arith.specs.Bounds.{Within, Size}
-use Rattle.trig.specs.declared.Answer.{Answer}
+use Rattle.refusal.specs.declared.Refusal.{Refusal}
 use Rattle.trig.specs.Trig.{ONE, angle_factor, angle_of, sine_of, cosine_of, Root, root_below, root_of, sine_limit, root_limit, reply_of}
 
 -- two answers never share a number and a value, so that the contracts fix the answer (Answers)
 abbrev pub DistinctReplies : Type 0
-DistinctReplies = (a b : Answer) → reply_of a ≡ reply_of b → a ≡ b
+DistinctReplies = (a b : Result ℤ Refusal) → reply_of a ≡ reply_of b → a ≡ b
 
 -- the angle's factor is 2^60 × pi / 180,000,000, fraction dropped, with document 01's fraction for pi (Mirror)
 abbrev pub AngleFactor : Type 0

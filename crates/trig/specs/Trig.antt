@@ -1,11 +1,10 @@
 -- Document 01, 'Angle, sine, cosine, root'. `quot_z` is its quotient: it drops the fraction toward zero.
-use Rattle.std.specs.Prelude.{Bool, cond, ◌≡◌, ◌⊎◌, List, [], ◌∷◌, ℕ, zero, suc, ◌+◌, ◌*◌, ◌-◌, ◌^◌, leb, ltb, ℤ, pos, nat_abs, ◌+ℤ◌, ◌-ℤ◌, ◌*ℤ◌, ◌≤ℤ◌, ◌<ℤ◌}
+use Rattle.std.specs.Prelude.{Bool, cond, ◌≡◌, ◌⊎◌, List, [], ◌∷◌, ℕ, zero, suc, ◌+◌, ◌*◌, ◌-◌, ◌^◌, leb, ltb, ℤ, pos, nat_abs, ◌+ℤ◌, ◌-ℤ◌, ◌*ℤ◌, ◌≤ℤ◌, ◌<ℤ◌, Result}
 use Rattle.std.specs.Int.Signed.{quot_z}
 use Rattle.arith.specs.Bounds.{Within, is_within, size_up_to}
+use Rattle.refusal.specs.declared.Refusal.{Refusal}
 use Rattle.refusal.specs.declared.Refusal.TheVariants.{OutOfRange}
-use Rattle.refusal.specs.Numbers.{Reply, accepted, refused}
-use Rattle.trig.specs.declared.Answer.{Answer}
-use Rattle.trig.specs.declared.Answer.TheVariants.{Value, Refused}
+use Rattle.refusal.specs.Numbers.{Reply, accepted, refused, reply_by}
 
 -- ONE means 2^30 ('Units and the sheet')
 abbrev pub ONE : ℤ
@@ -101,6 +100,5 @@ abbrev pub root_reply : ℤ → Reply
 root_reply q = offered (is_within (pos 1) (pos root_limit) q) (pos (root_of (nat_abs q)))
 
 -- the number and the value that an answer stands for
-abbrev pub reply_of : Answer → Reply
-reply_of (Value v) = accepted (v ∷ [])
-reply_of (Refused r) = refused 1 r
+abbrev pub reply_of : Result ℤ Refusal → Reply
+reply_of = reply_by 1 (λ v. v ∷ [])

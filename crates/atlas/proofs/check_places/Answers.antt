@@ -1,29 +1,33 @@
--- `atlas::check_places` meets its contract. The loop's invariant: the places from k on come to what all of them come to. Assumes nothing.
+-- `atlas::check_places` meets its contract. Assumes nothing.
 use mathlib.Core.Path.{refl, ◌≡◌, ◌∙◌}
 use native.Mathlib.Omega.{arith}
-use borrow.Author.Rules.{rules}
 use lib.ListN.{length}
 use lib.Seq.{drop-length}
+use Rattle.std.specs.Prelude.{Ok, Err}
+use Rattle.std.proofs.lemmas.List.{get_or_default}
+use Rattle.std.proofs.lemmas.Result.{err_from_is_err_and}
+use Rattle.place.specs.Places.{blank_place}
 use Rattle.atlas_file.specs.Writing.{places_rules}
 use Rattle.atlas.proofs.PlacesInTurn.{good_turn, bad_turn}
-use Rattle.sheet.specs.declared.Verdict.TheVariants.{Good, Refused}
 use Rattle.atlas.proofs.check_places.Goals as goal
 
 pub loop-k-preserved : goal.loop-k-preserved
 loop-k-preserved c =
     let l = c.loop-k in
-    let p = c.place_at_unchecked-place in
-    (search rules, good_turn _ _ l.k l.last_id p.result Good (omega arith) p.ensures c.in-Good.ensures refl ∙ l.invariant.1)
+    let is = get_or_default c.args.table.now l.k _ blank_place (omega arith) in
+    good_turn _ _ l.k l.last_id _ (Ok tt) (omega arith) is c.in_ok-check_place_on.ensures refl ∙ l.invariant
 
-pub returns-in-Refused : goal.returns-in-Refused
-returns-in-Refused c =
+pub returns-in_err-check_place_on : goal.returns-in_err-check_place_on
+returns-in_err-check_place_on c =
     let l = c.loop-k in
-    let p = c.place_at_unchecked-place in
-    bad_turn _ _ l.k l.last_id p.result (Refused c.in-Refused.r) (omega arith) p.ensures c.in-Refused.ensures c.in-Refused.r refl ∙ l.invariant.1
+    let p = err_from_is_err_and c.from_residual.result c.from_residual.ensures.1 in
+    let is = get_or_default c.args.table.now l.k _ blank_place (omega arith) in
+    let why = c.in_err-check_place_on.field-0.0 in
+    rw (p.1, p.2) (bad_turn _ _ l.k l.last_id _ (Err why) (omega arith) is c.in_err-check_place_on.ensures why refl ∙ l.invariant)
 
 pub returns : goal.returns
 unfolding places_rules
 returns c =
     let table = c.args.table.now in
     let e : c.loop-k.k ≡ length table = omega arith in
-    rw (e, drop-length) at c.loop-k.invariant.1
+    rw (e, drop-length) at c.loop-k.invariant

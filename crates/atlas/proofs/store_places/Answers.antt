@@ -1,37 +1,35 @@
--- `atlas::store_places` meets its contract. The loop's invariant: the first k places are stored, and the rest of the table is as it was. Assumes nothing.
+-- `atlas::store_places` meets its contract. Assumes nothing.
 use mathlib.Core.Path.{ap, ◌∙◌}
 use native.Mathlib.Numerals.{add-one}
 use native.Mathlib.Omega.{arith}
-use borrow.Author.Rules.{rules}
-use lib.ListN.{length, get_or, length-set}
+use lib.ListN.{length, get_or}
 use Rattle.place.specs.Places.{blank_place}
 use Rattle.atlas_file.specs.Reading.{Reading, places_read}
 use Rattle.table.proofs.Entries.{one_more, all_stored}
 use Rattle.atlas.proofs.FilePlaces.{other-room, with_most, accepted-count}
 use Rattle.atlas.proofs.store_places.Goals as goal
 
-pub place_of_unchecked-place-requires : goal.place_of_unchecked-place-requires
-place_of_unchecked-place-requires c =
+pub invariant_of-places : goal.invariant_of-places
+invariant_of-places c =
     let a = c.requires in
     let count = ap (λ (X : Reading). X.reply.count) (other-room a.0) in
-    record { accepted_file = with_most a.0; position_bound = omega (arith, a.1, count) }
+    record { accepted = with_most a.0; counted = omega (arith, a.1, count) }
 
-pub set_place_unchecked-requires : goal.set_place_unchecked-requires
-set_place_unchecked-requires c = let s = c.before.before.before.before.before in omega (arith, s.requires.1, (accepted-count s.requires.0).1)
+pub bounds-table-k : goal.bounds-table-k
+bounds-table-k c = omega (arith, c.requires.1, (accepted-count c.requires.0).1, c.loop-k.auto.table)
+
+pub offset_bounds-table-k : goal.offset_bounds-table-k
+offset_bounds-table-k c =
+    let a = c.requires in
+    omega (arith, a.1, ap (λ (X : Reading). X.reply.count) (other-room a.0), (accepted-count (with_most a.0)).1)
 
 pub loop-k-preserved : goal.loop-k-preserved
 loop-k-preserved c =
-    let s = c.before.before.before.before.before.before.before in
     let l = c.loop-k in
-    let n = accepted-count s.requires.0 in
-    let place = c.place_of_unchecked-place.ensures ∙ ap (λ (X : Reading). get_or X.places l.k blank_place) (other-room s.requires.0) in
-    let stored = rw (place, l.invariant.2) at c.set_place_unchecked.ensures in (
-      search rules,
-      ap length c.set_place_unchecked.ensures ∙ simp length-set l.invariant.1,
-      rw add-one (stored ∙ one_more blank_place (places_read s.args.bytes.now (length s.args.table.now)) s.args.table.now l.k (omega (arith, s.requires.1, n.0)) (omega (arith, s.requires.1, n.1))),
-    )
+    let n = accepted-count c.requires.0 in
+    let place = c.place_unchecked.ensures ∙ ap (λ (X : Reading). get_or X.places l.k blank_place) (other-room c.requires.0) in
+    rw (place, l.invariant, add-one) (one_more blank_place (places_read c.args.bytes.now (length c.args.table.now)) c.args.table.now l.k (omega (arith, c.requires.1, n.0)) (omega (arith, c.requires.1, n.1)))
 
 pub returns : goal.returns
 returns c =
-    let s = c.before.before.before in
-    c.loop-k.invariant.2 ∙ all_stored blank_place _ s.args.table.now c.loop-k.k (omega (arith, s.requires.1, (accepted-count s.requires.0).0))
+    c.loop-k.invariant ∙ all_stored blank_place _ c.args.table.now c.loop-k.k (omega (arith, c.requires.1, (accepted-count c.requires.0).0))

@@ -11,20 +11,20 @@ use Rattle.atlas_c.proofs.atlas_sheet.Goals as goal
 pub returns-then-sheet-length : goal.returns-then-sheet-length
 unfolding sheet_reply sheet_after
 returns-then-sheet-length c =
-    let short : length c.args.sheet.now < length (sheet_record c.in-Atlas.s) = omega arith in
+    let short : length c.args.sheet.now < length (sheet_record c.in-Ok.atlas.sheet) = omega arith in
     let test = lt-leb _ _ short in
-    record { sheet_length_after = rw (c.number.ensures, ← c.in-Atlas.ensures, test); sheet_after = rw (← c.in-Atlas.ensures, test) }
+    record { sheet_length_after = rw (c.number.ensures, ← c.in-Ok.ensures, test); sheet_after = rw (← c.in-Ok.ensures, test) }
 
 pub returns-else-sheet-length : goal.returns-else-sheet-length
 unfolding sheet_reply sheet_after
 returns-else-sheet-length c =
     let n = c.sheet_record_length-length.ensures in
-    let room : length (sheet_record c.in-Atlas.s) ≤ length c.args.sheet.now = omega arith in
+    let room : length (sheet_record c.in-Ok.atlas.sheet) ≤ length c.args.sheet.now = omega arith in
     let test = le-leb _ _ room in
-    record { sheet_length_after = rw (n, ← c.in-Atlas.ensures, test); sheet_after = rw (c.write_sheet_unchecked.ensures, n, ← c.in-Atlas.ensures, test) }
+    record { sheet_length_after = rw (n, ← c.in-Ok.ensures, test); sheet_after = rw (c.write_sheet_unchecked.ensures, n, ← c.in-Ok.ensures, test) }
 
-pub returns-in-Refused : goal.returns-in-Refused
+pub returns-in-Err : goal.returns-in-Err
 unfolding sheet_reply sheet_after
-returns-in-Refused c =
-    let n = not_zero c.in-Refused.refusal in
-    record { sheet_length_after = rw (c.number-in-Refused.ensures, ← c.in-Refused.ensures, n, n); sheet_after = rw (← c.in-Refused.ensures, n, n) }
+returns-in-Err c =
+    let n = not_zero c.in-Err.why.refusal in
+    record { sheet_length_after = rw (c.number-in-Err.ensures, ← c.in-Err.ensures, n, n); sheet_after = rw (← c.in-Err.ensures, n, n) }

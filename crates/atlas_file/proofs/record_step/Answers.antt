@@ -7,10 +7,11 @@ use native.Mathlib.Omega.{arith}
 use borrow.Author.Tests.{ltb-true, ltb-false, lt-ltb, le-ltb}
 use lib.Dec.{ltb}
 use lib.ListN.{length, drop, length-drop}
-use Rattle.refusal.proofs.InOrder.{in_turn_lem}
-use Rattle.sheet.specs.declared.Verdict.TheVariants.{Good, Refused}
+use Rattle.refusal.proofs.InOrder.{in_turn_lem, all_hold-good}
+use Rattle.std.proofs.lemmas.Result.{err_from_is_err_and}
+use Rattle.records.specs.Records.{body_of}
 use Rattle.atlas_file.specs.Steps.{due_rules, record_step}
-use Rattle.atlas_file.proofs.ByVerdict.{all_hold_lem, outcome-good, outcome-bad}
+use Rattle.atlas_file.proofs.ByVerdict.{here-good, here-bad}
 use Rattle.atlas_file.proofs.Views.{is_whole, a_record}
 use Rattle.atlas_file.proofs.record_step.Goals as goal
 
@@ -28,31 +29,36 @@ more-is at body size h = by_test (ltb (at + 1 + body) size) refl
 whole : (at body : ℕ) (bytes : List ℕ) → body < length bytes - at → ltb body (length (drop at bytes)) ≡ true
 whole at body bytes h = rw length-drop (lt-ltb _ _ h)
 
-pub returns-then-left-body : goal.returns-then-left-body
+pub returns-in_err-here : goal.returns-in_err-here
 unfolding record_step
-returns-then-left-body c =
-    rw (in_turn_lem, outcome-good (due_rules c.args.which c.args.state) Good c.in-Good.ensures refl, length-drop, le-ltb _ _ c.if-left-body.true) c.refused.ensures
+returns-in_err-here c =
+    let p = err_from_is_err_and c.from_residual.result c.from_residual.ensures.1 in
+    rw (p.1, p.2, in_turn_lem) (here-bad (due_rules c.args.which c.args.state) c.args.state _ c.due.ensures c.in_err-here.ensures _)
+
+pub returns-then-bytes-state : goal.returns-then-bytes-state
+unfolding record_step
+returns-then-bytes-state c =
+    let a = c.args in
+    let due = here-good (due_rules a.which a.state) a.state _ c.due.ensures c.in_ok-here.ensures in
+    let short = rw c.body-body.ensures at c.if-bytes-state.true in
+    rw (in_turn_lem, all_hold-good _ (due_rules a.which a.state) _ _ due, length-drop, le-ltb _ _ short) c.here-then-bytes-state.ensures
 
 pub content_step-requires : goal.content_step-requires
 content_step-requires c =
     let a = c.args in
-    let w = whole a.state.«at» a.body a.bytes.now c.if-left-body.false in
-    rw (part-size a.state.«at» a.body) (record {
+    let w = whole a.state.«at» (body_of a.which) a.bytes.now (rw c.body-body.ensures at c.if-bytes-state.false) in
+    rw (c.body-body.ensures, part-size a.state.«at» (body_of a.which)) (record {
       sheet_value = c.requires.sheet_value;
-      fact = a_record a.bytes.now a.state a.body w a.which c.requires.at_value;
-      end_value = rw (is_whole a.bytes.now a.state a.body w) (omega arith);
-      state_value = all_hold_lem (due_rules a.which a.state) Good c.in-Good.ensures refl;
+      fact = a_record a.bytes.now a.state a.which w c.requires.at_value;
+      end_value = rw (is_whole a.bytes.now a.state a.which w) (omega arith);
+      state_value = here-good (due_rules a.which a.state) a.state _ c.due.ensures c.in_ok-here.ensures;
     })
 
-pub returns-else-left-body : goal.returns-else-left-body
+pub returns : goal.returns
 unfolding record_step
-returns-else-left-body c =
+returns c =
     let a = c.args in
-    let w = whole a.state.«at» a.body a.bytes.now c.if-left-body.false in
-    rw (in_turn_lem, outcome-good (due_rules a.which a.state) Good c.in-Good.ensures refl, w, length-drop)
-    (rw (part-size a.state.«at» a.body, more-is a.state.«at» a.body (length a.bytes.now) (omega arith)) at c.content_step.ensures)
-
-pub returns-in-Refused : goal.returns-in-Refused
-unfolding record_step
-returns-in-Refused c =
-    rw (in_turn_lem, outcome-bad (due_rules c.args.which c.args.state) (Refused c.in-Refused.r) c.in-Refused.ensures _ refl) c.refused-in-Refused.ensures
+    let due = here-good (due_rules a.which a.state) a.state _ c.due.ensures c.in_ok-here.ensures in
+    let w = whole a.state.«at» (body_of a.which) a.bytes.now (rw c.body-body.ensures at c.if-bytes-state.false) in
+    rw (in_turn_lem, all_hold-good _ (due_rules a.which a.state) _ _ due, w, length-drop)
+    (rw (c.body-body.ensures, part-size a.state.«at» (body_of a.which), more-is a.state.«at» (body_of a.which) (length a.bytes.now) (omega arith)) at c.content_step.ensures)

@@ -1,22 +1,18 @@
 -- `atlas_file::sheet_step` meets its contract. Assumes nothing.
-use mathlib.Core.Path.{◌≡◌, refl}
-use Rattle.sheet.specs.declared.Verdict.TheVariants.{Good, Refused}
-use Rattle.sheet.specs.Sheets.{sheet_rules, check_reply, reply_of}
-use Rattle.records.specs.Records.{sheet_of}
+use Rattle.refusal.proofs.InOrder.{all_hold-good}
+use Rattle.sheet.specs.Sheets.{sheet_rules}
+use Rattle.std.proofs.lemmas.Result.{err_from_is_err_and}
 use Rattle.atlas_file.specs.Steps.{sheet_step}
-use Rattle.atlas_file.proofs.ByVerdict.{outcome-good, outcome-bad}
+use Rattle.atlas_file.proofs.ByVerdict.{here-good, here-bad}
 use Rattle.atlas_file.proofs.sheet_step.Goals as goal
 
-pub returns-in-Good : goal.returns-in-Good
+pub returns-in_err-here : goal.returns-in_err-here
 unfolding sheet_step
-returns-in-Good c =
-    let sheet = sheet_of c.args.bytes.now in
-    let e : reply_of Good ≡ check_reply sheet = rw c.decode_sheet_unchecked-sheet.ensures at c.in-Good.ensures in
-    rw (c.decode_sheet_unchecked-sheet.ensures, c.blank-place.ensures, c.requires.end_value, outcome-good (sheet_rules sheet) Good e refl)
+returns-in_err-here c =
+    let p = err_from_is_err_and c.from_residual.result c.from_residual.ensures.1 in
+    rw (p.1, p.2, ← c.decode_sheet_unchecked-sheet.ensures) (here-bad (sheet_rules _) c.args.state _ c.check.ensures c.in_err-here.ensures _)
 
-pub returns-in-Refused : goal.returns-in-Refused
+pub returns : goal.returns
 unfolding sheet_step
-returns-in-Refused c =
-    let sheet = sheet_of c.args.bytes.now in
-    let e : reply_of (Refused c.in-Refused.r) ≡ check_reply sheet = rw c.decode_sheet_unchecked-sheet.ensures at c.in-Refused.ensures in
-    rw (outcome-bad (sheet_rules sheet) _ e _ refl) c.refused.ensures
+returns c =
+    rw (← c.decode_sheet_unchecked-sheet.ensures, all_hold-good _ (sheet_rules _) _ _ (here-good (sheet_rules _) c.args.state _ c.check.ensures c.in_ok-here.ensures), c.requires.end_value)

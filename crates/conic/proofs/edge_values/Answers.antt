@@ -24,19 +24,19 @@ width s passes = let w_most : s.half_width ≤ 60000000 = omega (linear, (limits
 
 module _ (c : After-sine_cosine_unchecked-east) where
   abbrev sheet : Sheet
-  sheet = c.args.sheet
+  sheet = c.args.checked.sheet
 
   n_within : Within (pos 0) ONE (n sheet)
-  n_within = let l = limits sheet c.requires in omega linear
+  n_within = let l = limits sheet c.args.checked.passes in omega linear
 
   east-is : c.sine_cosine_unchecked-east.result ≡ sine_cosine_at (n sheet) (w sheet)
-  east-is = rw (plain (width c.args.sheet c.requires) tt) at c.sine_cosine_unchecked-east.ensures
+  east-is = rw (c.cone.ensures.constant_value, plain (width c.args.checked.sheet c.args.checked.passes) tt) at c.sine_cosine_unchecked-east.ensures
 
   abbrev sine : Range c.sine_cosine_unchecked-east.result.sine
-  sine = via (ap (λ e. e.sine) east-is) (within (sine_at-size (n sheet) (w sheet) (n_size sheet c.requires) (w_size sheet c.requires)))
+  sine = via (ap (λ e. e.sine) east-is) (within (sine_at-size (n sheet) (w sheet) (n_size sheet c.args.checked.passes) (w_size sheet c.args.checked.passes)))
 
   abbrev cosine : Range c.sine_cosine_unchecked-east.result.cosine
-  cosine = via (ap (λ e. e.cosine) east-is) (within (cosine_at-size (n sheet) (w sheet) (n_size sheet c.requires) (w_size sheet c.requires)))
+  cosine = via (ap (λ e. e.cosine) east-is) (within (cosine_at-size (n sheet) (w sheet) (n_size sheet c.args.checked.passes) (w_size sheet c.args.checked.passes)))
 
   abbrev west-sine : Range (pos 0 -ℤ to_z w64 (of_z w64 c.sine_cosine_unchecked-east.result.sine))
   west-sine = r_sub (lit (pos 0)) (r_bits w64 sine)
@@ -45,8 +45,7 @@ abbrev origin-radius : {s : Sheet} → Typed s → Range (to_z w64 (of_z w64 (to
 origin-radius t = r_sub (wide t.g) (wide t.f0)
 
 pub sine_cosine_unchecked-east-requires : goal.sine_cosine_unchecked-east-requires
-sine_cosine_unchecked-east-requires c =
-    record { n_bound = omega (linear, (limits c.args.sheet c.requires).n_most); size = rw (plain (width c.args.sheet c.requires) tt) (w_size c.args.sheet c.requires) }
+sine_cosine_unchecked-east-requires c = rw (plain (width c.args.checked.sheet c.args.checked.passes) tt) (w_size c.args.checked.sheet c.args.checked.passes)
 
 -- sine and cosine at the edges
 

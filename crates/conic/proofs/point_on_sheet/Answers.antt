@@ -22,37 +22,35 @@ abbrev radius-of : {g f : ℤ} → SFits w32 g → SFits w32 f → Range (to_z w
 radius-of g f = r_sub (wide g) (wide f)
 
 at_edge : (s : Start) (d : ℤ) → Size (pos 60000000) d → let a = s.args in
-    Size (pos sine_limit) (sine_at (n a.sheet) d) × Size ONE (cosine_at (n a.sheet) d)
+    Size (pos sine_limit) (sine_at (n a.checked.sheet) d) × Size ONE (cosine_at (n a.checked.sheet) d)
 at_edge s d d_size =
-    let n-up-to = n_size s.args.sheet s.requires.sheet_value in
+    let n-up-to = n_size s.args.checked.sheet s.args.checked.passes in
     (sine_at-size _ d n-up-to d_size, cosine_at-size _ d n-up-to d_size)
 
-pub not_left_unchecked-requires : goal.not_left_unchecked-requires
-not_left_unchecked-requires c =
-    let s = (goal.at.not_left_unchecked-requires c).Start in
-    let e = at_edge s _ (size_neg (w_size s.args.sheet s.requires.sheet_value)) in
-    rw (s.requires.edges_value, to_z-of_z s.ranges.x, to_z-of_z s.ranges.v) (record { size = e.0; size_2 = e.1; x = s.requires.x; v = s.requires.v })
+pub is_not_left_unchecked-requires : goal.is_not_left_unchecked-requires
+is_not_left_unchecked-requires c =
+    let s = (goal.at.is_not_left_unchecked-requires c).Start in
+    let e = at_edge s _ (size_neg (w_size s.args.checked.sheet s.args.checked.passes)) in
+    rw s.requires.edges_value (record { size = e.0; size_2 = e.1 })
 
-pub not_right_unchecked-requires : goal.not_right_unchecked-requires
-not_right_unchecked-requires c =
-    let s = (goal.at.not_right_unchecked-requires c).Start in
-    let e = at_edge s _ (w_size s.args.sheet s.requires.sheet_value) in
-    rw (s.requires.edges_value, to_z-of_z s.ranges.x, to_z-of_z s.ranges.v) (record { size = e.0; size_2 = e.1; x = s.requires.x; v = s.requires.v })
+pub is_not_right_unchecked-requires : goal.is_not_right_unchecked-requires
+is_not_right_unchecked-requires c =
+    let s = (goal.at.is_not_right_unchecked-requires c).Start in
+    let e = at_edge s _ (w_size s.args.checked.sheet s.args.checked.passes) in
+    rw s.requires.edges_value (record { size = e.0; size_2 = e.1 })
 
 pub returns : goal.returns
 unfolding point_on_sheet not_left not_right
 returns c =
     let s = (goal.at.returns c).Start in
-    let t = typed {s = s.args.sheet} c.struct_told-2-1.given in
+    let t = typed {s = s.args.checked.sheet} c.struct_told-2-1.given in
     rw (
-      c.not_right_unchecked.ensures,
-      c.not_left_unchecked.ensures,
+      c.is_not_right_unchecked.ensures,
+      c.is_not_left_unchecked.ensures,
       s.requires.edges_value,
-      to_z-of_z s.ranges.x,
-      to_z-of_z s.ranges.v,
       to_z-of_z s.ranges.r,
       plain (r_bits w64 (radius-of t.g t.fn)) tt,
       plain (r_bits w64 (radius-of t.g t.fs)) tt,
       s.requires.r_value,
-      true_lt {a = pos 0} {b = s.args.v} (omega (linear, s.requires.v)),
+      true_lt {a = pos 0} {b = s.args.point.v} (omega (linear, s.args.point.v_range)),
     )

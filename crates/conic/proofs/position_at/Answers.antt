@@ -32,10 +32,10 @@ module _ (c : After-on_sheet) where
   held_is : c.on_sheet.result ≡ on_sheet sheet (latitude_at sheet c.args.r) (longitude_at sheet c.args.d)
   held_is = rw (latitude-is, longitude-is) at c.on_sheet.ensures
 
-pub returns-then-on_sheet : goal.returns-then-on_sheet
-returns-then-on_sheet c =
-    let k = (goal.at.returns-then-on_sheet c).After-on_sheet in
-    rw (latitude-is k, longitude-is k, sym (held_is k) ∙ c.if-on_sheet.true)
+pub returns-then-not-on_sheet : goal.returns-then-not-on_sheet
+returns-then-not-on_sheet c = let k = (goal.at.returns-then-not-on_sheet c).After-on_sheet in rw (sym (held_is k) ∙ c.if-not-on_sheet.true)
 
-pub returns-else-on_sheet : goal.returns-else-on_sheet
-returns-else-on_sheet c = let k = (goal.at.returns-else-on_sheet c).After-on_sheet in rw (sym (held_is k) ∙ c.if-on_sheet.false)
+pub returns : goal.returns
+returns c =
+    let k = (goal.at.returns c).After-on_sheet in
+    rw (latitude-is k, longitude-is k, sym (held_is k) ∙ c.if-not-on_sheet.false)

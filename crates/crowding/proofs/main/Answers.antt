@@ -1,11 +1,6 @@
 -- What is printed ends within its buffer.
-use mathlib.Core.Path.{sym}
-use lib.Seq.{length-take-le}
 use Rattle.programs.proofs.Listings.{stands_within}
 use Rattle.crowding.proofs.main.Goals as goal
 
-pub slice_bounds-text-end : goal.slice_bounds-text-end
-slice_bounds-text-end c = stands_within _ _ c.report-end.ensures
-
-pub slice_bounds-write_all-end : goal.slice_bounds-write_all-end
-slice_bounds-write_all-end c = sym (length-take-le _ _ (stands_within _ _ c.before.report-end.ensures))
+pub print_report_unchecked-requires-clause-within : goal.print_report_unchecked-requires-clause-within
+print_report_unchecked-requires-clause-within c = λ read text end printed stands. stands_within _ _ stands

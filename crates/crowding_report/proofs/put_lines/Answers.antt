@@ -11,8 +11,7 @@ use Rattle.place.specs.Places.{blank_place}
 use Rattle.nearest.specs.Taps.{within_reach, usual_reach}
 use Rattle.atlas_file.specs.Steps.{most_places}
 use Rattle.atlas_file.specs.Reading.{places_read}
-use Rattle.atlas.proofs.FilePlaces.{accepted-count}
-use Rattle.text.proofs.Building.{held_text}
+use Rattle.atlas.proofs.FilePlaces.{counted}
 use Rattle.programs.proofs.Listings.{none_put, one_put, all_put}
 use Rattle.crowding_report.specs.Crowding.{others_within, crowd_lines_from}
 use Rattle.crowding_report.proofs.Others.{itself_and_others}
@@ -24,30 +23,26 @@ others : (file : List ℕ) (k : ℕ) {p : Place} {n : ℕ} → k < length (place
 others file k inside is e = rw is at e ∙ itself_and_others (places_read file most_places) k usual_reach inside
 
 pub loop-k-init : goal.loop-k-init
-loop-k-init c =
-    let p = c.requires in
-    let n = accepted-count p.1 in
-    (p.2 ∙ n.0, none_put _ _ _ _ (omega (arith, p.0, n.1, p.2)))
+loop-k-init c = let p = c.args.places in none_put _ _ _ _ (omega (arith, c.requires, (counted p).1))
 
 pub overflow_sub-around : goal.overflow_sub-around
-overflow_sub-around c = omega (arith, others c.args.file.now c.loop-k.k (omega (arith, c.loop-k.invariant.0)) c.place_of_unchecked-place.ensures c.count_around-around.ensures)
+overflow_sub-around c = omega (arith, others c.args.places.bytes.now c.loop-k.k (omega (arith, (counted c.args.places).0)) c.place_unchecked-place.ensures c.count_around-around.ensures)
 
 pub loop-k-preserved : goal.loop-k-preserved
 loop-k-preserved c =
     let l = c.loop-k in
-    let ps = places_read c.args.file.now most_places in
-    let is = c.place_of_unchecked-place.ensures in
-    let near = others c.args.file.now l.k (omega (arith, l.invariant.0)) is c.count_around-around.ensures in
+    let p = c.args.places in
+    let ps = places_read p.bytes.now most_places in
+    let is = c.place_unchecked-place.ensures in
+    let below : l.k < length ps = omega (arith, (counted p).0) in
+    let near = others p.bytes.now l.k below is c.count_around-around.ensures in
     let less : c.count_around-around.result - 1 ≡ others_within ps l.k usual_reach = omega (arith, near) in
-    let text = held_text _ _ c.crowd_line.ensures in
-    let below : l.k < length ps = omega (arith, l.invariant.0) in
-    let turn = ap (crowd_lines_from l.k ps) (drop-cons ps l.k blank_place below) in (
-      l.invariant.0,
-      one_put _ _ _ _ l.invariant.1 _ _ _ (omega arith) (rw (add-one, less, is) turn) c.crowd_line.ensures.0 c.put_line_unchecked-to.auto.out (rw text at c.put_line_unchecked-to.ensures),
-    )
+    let turn = ap (crowd_lines_from l.k ps) (drop-cons ps l.k blank_place below) in
+    one_put _ _ _ _ l.invariant _ _ _ (omega arith) (rw (add-one, less, is) turn) c.crowd_line-line.ensures.0 c.put_line_unchecked-to.auto.out
+    (rw (c.as_bytes.ensures.value ∙ c.as_str.ensures.value ∙ c.crowd_line-line.ensures.1) at c.put_line_unchecked-to.ensures)
 
 pub returns : goal.returns
 returns c =
-    let l = c.loop-k in
-    let ps = places_read c.args.file.now most_places in
-    all_put _ _ _ _ l.invariant.1 (ap (crowd_lines_from l.k ps) (drop_of_length-le ps {i = l.k} (omega (arith, l.invariant.0))))
+    let p = c.args.places in
+    let ps = places_read p.bytes.now most_places in
+    all_put _ _ _ _ c.loop-k.invariant (ap (crowd_lines_from c.loop-k.k ps) (drop_of_length-le ps {i = c.loop-k.k} (omega (arith, (counted p).0))))

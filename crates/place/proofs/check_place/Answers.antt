@@ -1,4 +1,5 @@
 -- `place::check_place` meets its contract. Assumes nothing.
+use borrow.Author.Rules.{rules}
 use Rattle.place.proofs.Fields.{typed}
 use Rattle.place.proofs.PlaceVerdicts.{by_position}
 use Rattle.place.proofs.check_place.Goals as goal
@@ -6,5 +7,5 @@ use Rattle.place.proofs.check_place.Goals as goal
 pub returns : goal.returns
 returns c =
     let a = c.args in
-    by_position (typed {p = a.place} c.struct_told-2-1.given) a.sheet a.count a.last_id c.forward-answer.result c.verdict_at.result
+    by_position (typed {p = a.place} (search rules)) a.sheet a.count a.last_id c.forward-answer.result c.verdict_at.result
     c.forward-answer.ensures c.verdict_at.ensures

@@ -1,10 +1,7 @@
--- named and zeros are what the definition says of the bytes from i on.
-use Rattle.std.proofs.Common.{◌≡◌, ◌≤◌, length, drop}
+-- named and zeros are what the definition says of the bytes behind those that are left.
+use Rattle.std.proofs.Common.{◌≡◌, List, ℕ, ◌++◌}
 use Rattle.place.specs.Names.{are_zeros, are_printable_then_zeros}
 use Rattle.place.proofs.is_name.Given as goal
 
-abbrev pub invariant-loop-i : goal.invariant-loop-i
-invariant-loop-i l = (l.i ≤ 16) × (length l.name ≡ 16) × (l.zeros ≡ are_zeros (drop l.i l.name)) × (l.named ≡ are_printable_then_zeros (drop l.i l.name))
-
-abbrev pub decreases-loop-i : goal.decreases-loop-i
-decreases-loop-i l = l.i
+abbrev pub invariant-loop-b : goal.invariant-loop-b
+invariant-loop-b l = (tail : List ℕ) × (l.fn.name ≡ l.b-iterator.iter.rest.now ++ tail) × (l.zeros ≡ are_zeros tail) × (l.named ≡ are_printable_then_zeros tail)

@@ -4,10 +4,10 @@ use Rattle.refusal.proofs.Distinct.{not_zero}
 use Rattle.programs.specs.Tapping.{answer_to}
 use Rattle.programs.proofs.answer.Goals as goal
 
-pub returns-in-Point : goal.returns-in-Point
+pub returns-in-Ok : goal.returns-in-Ok
 unfolding answer_to
-returns-in-Point c = rw (← c.in-Point.ensures) (search rules)
+returns-in-Ok c = rw (← c.in-Ok.ensures) (search rules)
 
-pub returns-in-Refused : goal.returns-in-Refused
+pub returns-in-Err : goal.returns-in-Err
 unfolding answer_to
-returns-in-Refused c = rw (← c.in-Refused.ensures, not_zero c.in-Refused.r) c.refused_line.ensures
+returns-in-Err c = rw (← c.in-Err.ensures, not_zero c.in-Err.refusal) c.refused_line.ensures

@@ -1,8 +1,7 @@
 -- `programs::put_places`: `PutSoFar`, with the places' lines.
 use mathlib.Core.List.{List}
-use mathlib.Core.Path.{◌≡◌}
-use Prim.Native.Nat.{ℕ, ◌-◌}
-use lib.ListN.{length, drop}
+use Prim.Native.Nat.{ℕ}
+use lib.ListN.{drop}
 use Rattle.place.specs.declared.Place.{Place}
 use Rattle.atlas_file.specs.Steps.{most_places}
 use Rattle.atlas_file.specs.Reading.{places_read}
@@ -15,8 +14,4 @@ left ps k = place_lines (drop k ps)
 
 abbrev pub invariant-loop-k : goal.invariant-loop-k
 invariant-loop-k l =
-    let ps = places_read l.file most_places in
-    record { counted : l.count ≡ length ps; so_far : PutSoFar (left ps) l.count l.at l.initial.out l.out l.to l.k }
-
-abbrev pub decreases-loop-k : goal.decreases-loop-k
-decreases-loop-k l = l.count - l.k
+    PutSoFar (left (places_read l.places.bytes.now most_places)) l.places.count l.at l.initial.out l.out l.to l.k

@@ -5,8 +5,8 @@ use Rattle.atlas_file.specs.Reading.{read_reply}
 use Rattle.reader.proofs.Turns.{Stands}
 use Rattle.reader.proofs.run.Given as goal
 
-abbrev pub invariant-loop-count : goal.invariant-loop-count
-invariant-loop-count l = Stands l.bytes (read_reply l.bytes l.room) l.reader
+abbrev pub invariant-loop-advance : goal.invariant-loop-advance
+invariant-loop-advance l = Stands l.bytes (read_reply l.bytes l.room) l.reader
 
-abbrev pub decreases-loop-count : goal.decreases-loop-count
-decreases-loop-count l = length l.bytes - l.reader.«state».«at»
+abbrev pub decreases-loop-advance : goal.decreases-loop-advance
+decreases-loop-advance l = length l.bytes - l.reader.«state».«at»

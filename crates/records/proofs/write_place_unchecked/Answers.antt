@@ -1,25 +1,18 @@
 -- `records::write_place_unchecked` meets its contract. Assumes nothing.
-use mathlib.Core.Path.{refl, ◌∙◌}
-use mathlib.Core.List.{[], ◌∷◌}
+use mathlib.Core.Path.{◌≡◌, refl, ap, ◌∙◌}
+use mathlib.Core.List.{◌∷◌, ◌++◌}
+use borrow.Author.Rules.{rules}
 use native.Mathlib.Omega.{arith}
-use Rattle.little_endian.specs.Numbers.{u32_bytes, numbers_bytes}
-use Rattle.records.specs.Records.{place_record}
-use Rattle.place.proofs.Fields.{typed}
-use Rattle.little_endian.proofs.Bits.{unsigned_of}
+use lib.ListN.{length}
+use Rattle.little_endian.specs.Numbers.{numbers_bytes}
 use Rattle.little_endian.proofs.Puts.{written_before}
+use Rattle.records.specs.Records.{place_record}
 use Rattle.records.proofs.write_place_unchecked.Goals as goal
 
 pub returns : goal.returns
-unfolding place_record numbers_bytes u32_bytes
+unfolding place_record
 returns c =
-    let p = c.args.place in
-    let t = typed {p = p} c.struct_told-1.given in
-    written_before c.args.part.now _ _ _ 2 c.put_numbers_unchecked.ensures
-    (λ i.
-    p.«id»
-    ∷ unsigned_of p.«latitude» c.to_unsigned.ensures t.latitude.sfits i
-    ∷ unsigned_of p.«longitude» c.to_unsigned-2.ensures t.longitude.sfits i
-    ∷ unsigned_of p.«x» c.to_unsigned-3.ensures t.x.sfits i
-    ∷ unsigned_of p.«y» c.to_unsigned-4.ensures t.y.sfits i
-    ∷ [])
-    _ _ _ c.put_name.ensures refl (c.requires ∙ omega (arith, t.name))
+    let name = c.args.place.«name» in
+    let n : length name ≡ 16 = search rules in
+    rw (c.put_bytes_unchecked.ensures, c.put_numbers_unchecked.ensures)
+    (written_before _ _ name 2 21 refl (omega arith) ∙ ap (λ numbers. 2 ∷ (numbers_bytes numbers ++ name)) (search rules))

@@ -1,16 +1,15 @@
 -- `sheet::cone_agrees` meets its contract. Assumes nothing.
-use mathlib.Core.Path.{◌≡◌, ap, ◌∙◌}
+use mathlib.Core.Path.{ap, ◌∙◌}
 use lib.IntN.{◌-ℤ◌}
 use mir.Syntax.{w64}
 use mir.Val.{to_z, of_z}
 use mir.Facts.{to_z-of_z}
 use Rattle.arith.specs.Bounds.{size_up_to}
 use Rattle.arith.proofs.Fits.{Range, fits, plain, inside_of, within, nat_bits, back, r_bits, r_sub, bounded}
-use Rattle.trig.specs.Trig.{angle_of}
 use Rattle.sheet.specs.Sheets.{cone_agrees}
 use Rattle.sheet.proofs.Angles.{parallel_angle_size, sine-range, cosine-range, cone_range}
 use Rattle.sheet.proofs.cone_agrees.Goals as goal
-use Rattle.sheet.proofs.cone_agrees.Goals.{After-angle_unchecked, After-cone_angle_unchecked, After-cosine_at-then-f1-f2, After-sine_unchecked-sine}
+use Rattle.sheet.proofs.cone_agrees.Goals.{After-cone_angle_unchecked, After-cosine_at-then-f1-f2, After-sine-sine}
 
 abbrev first : (c : After-cosine_at-then-f1-f2) → Range c.before.cosine_at.result
 first c = let s = c.before.before.before in cosine-range {f = s.args.f1} (rw (to_z-of_z s.ranges.f1) at c.before.cosine_at.ensures) s.requires.size
@@ -31,14 +30,11 @@ turned c =
     cone_range {a = s.args.f2 -ℤ s.args.f1} (rw (plain (r_bits w64 (apart c.before)) tt) at c.cone_angle_unchecked.ensures) s.requires.n_bound
     (inside_of (r_sub (within s.requires.size_2) (within s.requires.size)) tt)
 
-angled : (c : After-angle_unchecked) → c.angle_unchecked.result ≡ angle_of c.before.before.args.f1
-angled c = rw (to_z-of_z c.before.before.ranges.f1) at c.angle_unchecked.ensures
-
-abbrev sine : (c : After-sine_unchecked-sine) → Range c.sine_unchecked-sine.result
+abbrev sine : (c : After-sine-sine) → Range c.sine-sine.result
 sine c =
-    let s = c.before.before.before in
-    let t = back w64 c.before.angle_unchecked.result c.before.angle_unchecked.type_inv in
-    sine-range {f = s.args.f1} (rw (t, angled c.before) at c.sine_unchecked-sine.ensures) s.requires.size
+    let t = c.angle_unchecked-t in
+    let angled = rw (to_z-of_z c.ranges.f1) at t.ensures in
+    sine-range {f = c.args.f1} (rw (back w64 t.result t.type_inv, angled) at c.sine-sine.ensures) c.requires.size
 
 pub overflow_sub-fall : goal.overflow_sub-fall
 overflow_sub-fall c = fits (fall c) tt
@@ -48,10 +44,11 @@ overflow_sub-fall c = fits (fall c) tt
 pub overflow_sub-cone_angle_unchecked : goal.overflow_sub-cone_angle_unchecked
 overflow_sub-cone_angle_unchecked c = fits (r_sub (r_bits w64 (turned c)) (r_bits w64 (fall c.before))) tt
 
-pub sine_unchecked-sine-requires : goal.sine_unchecked-sine-requires
-sine_unchecked-sine-requires c =
-    let s = c.before.before in
-    rw (back w64 c.angle_unchecked.result c.angle_unchecked.type_inv, angled c) (parallel_angle_size s.args.f1 s.requires.size)
+pub invariant_of-sine : goal.invariant_of-sine
+invariant_of-sine c =
+    let t = c.angle_unchecked-t in
+    let angled = rw (to_z-of_z c.ranges.f1) at t.ensures in
+    rw (back w64 t.result t.type_inv, angled) (record { in_range = parallel_angle_size c.args.f1 c.requires.size })
 
 pub overflow_sub-n : goal.overflow_sub-n
 overflow_sub-n c = fits (r_sub (nat_bits w64 c.before.before.before.requires.n_bound) (r_bits w64 (sine c))) tt

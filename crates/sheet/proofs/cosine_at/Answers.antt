@@ -6,10 +6,12 @@ use Rattle.arith.proofs.Fits.{back}
 use Rattle.trig.specs.Trig.{angle_of}
 use Rattle.sheet.proofs.Angles.{parallel_angle_size}
 use Rattle.sheet.proofs.cosine_at.Goals as goal
-use Rattle.sheet.proofs.cosine_at.Goals.{After-angle_unchecked}
+use Rattle.sheet.proofs.cosine_at.Goals.{After-angle_unchecked-t}
 
-angled : (c : After-angle_unchecked) → c.angle_unchecked.result ≡ angle_of c.before.args.f
-angled c = rw (to_z-of_z c.before.ranges.f) at c.angle_unchecked.ensures
+angled : (c : After-angle_unchecked-t) → c.angle_unchecked-t.result ≡ angle_of c.args.f
+angled c = rw (to_z-of_z c.ranges.f) at c.angle_unchecked-t.ensures
 
-pub cosine_unchecked-requires : goal.cosine_unchecked-requires
-cosine_unchecked-requires c = rw (back w64 c.angle_unchecked.result c.angle_unchecked.type_inv, angled c) (parallel_angle_size c.before.args.f c.before.requires)
+pub invariant_of-cosine : goal.invariant_of-cosine
+invariant_of-cosine c =
+    let t = c.angle_unchecked-t in
+    rw (back w64 t.result t.type_inv, angled (goal.at.invariant_of-cosine c).After-angle_unchecked-t) (record { in_range = parallel_angle_size c.args.f c.requires })

@@ -18,5 +18,5 @@ pub loop-filled-preserved : goal.loop-filled-preserved
 loop-filled-preserved g c =
     let at = c.loop-filled.filled in
     let room = length c.loop-filled.buffer - at in
-    let got = c.read_some-got.ensures in
-    (search rules, subst (Consumes _ _) (take-put_mid-into at room c.read_some-got.result c.loop-filled.buffer c.read_some-got.new.buffer c.loop-filled.invariant.0 got.in_bounds) (Consumes-trans _ _ _ _ _ c.loop-filled.invariant.1 got.bytes))
+    let got = c.read_some.ensures in
+    (search rules, subst (Consumes _ _) (take-put_mid-into at room c.read_some.result c.loop-filled.buffer c.read_some.new.buffer c.loop-filled.invariant.0 got.in_bounds) (Consumes-trans _ _ _ _ _ c.loop-filled.invariant.1 got.bytes))

@@ -1,9 +1,8 @@
 -- `text::decimal` meets its contract. Assumes nothing.
 use native.Mathlib.Omega.{arith}
-use mir.Facts.{to_z-of_z}
-use Rattle.text.specs.Decimals.{signed}
-use Rattle.text.proofs.Rows.{holds, long_signed_64}
+use Rattle.text.proofs.Printed.{signed_printed_64}
 use Rattle.text.proofs.decimal.Goals as goal
 
 pub returns : goal.returns
-returns c = holds (signed c.args.n) (omega (arith, long_signed_64 c.ranges.n)) (rw (c.with_signed.ensures, to_z-of_z c.ranges.n, c.empty.ensures.1))
+returns c =
+    rw (← (signed_printed_64 c.ranges.n), ← c.format.ensures.text) (omega (arith, c.format.ensures.short), rw c.empty-line.ensures.1 at c.push_str.ensures.bytes)

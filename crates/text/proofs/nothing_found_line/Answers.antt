@@ -1,14 +1,8 @@
 -- `text::nothing_found_line` meets its contract. Assumes nothing.
-use native.Mathlib.Omega.{arith}
 use mir.Facts.{to_z-of_z}
 use Rattle.text.specs.Lines.{nothing_found_line}
-use Rattle.text.proofs.Rows.{holds, row_one, row_more, long_one, long_more, long_signed_64}
 use Rattle.text.proofs.nothing_found_line.Goals as goal
 
 pub returns : goal.returns
 unfolding nothing_found_line
-returns c =
-    let a = c.args in
-    let f = c.ranges in
-    holds (nothing_found_line a.latitude a.longitude) (rw (long_more, long_more, long_one) (omega (arith, long_signed_64 f.latitude, long_signed_64 f.longitude)))
-    (rw (c.with_position.ensures, to_z-of_z f.latitude, to_z-of_z f.longitude, c.with_word.ensures, c.end.ensures, row_more, row_more, row_one))
+returns c = let f = c.ranges in rw (to_z-of_z f.latitude, to_z-of_z f.longitude) at c.position_line.ensures

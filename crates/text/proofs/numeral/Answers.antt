@@ -1,20 +1,22 @@
 -- `text::numeral` meets its contract. Assumes nothing.
-use mathlib.Core.Path.{◌∙◌}
+use mathlib.Core.Path.{sym}
 use native.Mathlib.Omega.{arith}
-use borrow.Author.Tests.{lt-ltb, le-ltb}
-use lib.ListN.{length, drop_of_length-le}
-use Rattle.text.specs.Decimals.{is_numeral}
-use Rattle.text.specs.Coordinates.{numeral_of}
-use Rattle.text.proofs.Reading.{capped_is}
+use lib.ListN.{drop_of_length-le}
+use Rattle.std.proofs.lemmas.Grind.{common_steps}
+use Rattle.text.proofs.Reading.{none_spelled, spelled_in_turn, digit_turn}
 use Rattle.text.proofs.numeral.Goals as goal
 
-pub returns-then-text-eq0 : goal.returns-then-text-eq0
-unfolding numeral_of is_numeral
-returns-then-text-eq0 c = let t = c.args.text.now in rw (le-ltb 0 (length t) (omega arith))
+pub returns-then-is_empty : goal.returns-then-is_empty
+returns-then-is_empty c = sym (none_spelled c.args.text.now (grind (arith, common_steps)))
+
+pub returns-in_err-value : goal.returns-in_err-value
+returns-in_err-value c =
+    let l = c.loop-byte in
+    let text = c.args.text.now in
+    rw (spelled_in_turn text (grind (arith, common_steps)), ← l.invariant, digit_turn l.value l.byte-index text c.loop-byte-test.true c.with_digit.ensures, c.in_err-value.was) c.from_residual.ensures
 
 pub returns : goal.returns
-unfolding numeral_of is_numeral
 returns c =
-    let l = c.loop-k in
+    let l = c.loop-byte in
     let text = c.args.text.now in
-    rw (lt-ltb 0 (length text) (omega arith)) (rw (drop_of_length-le text {i = l.k} (omega arith)) at l.invariant.1 ∙ capped_is 0 text)
+    rw (spelled_in_turn text (grind (arith, common_steps)), ← l.invariant, drop_of_length-le text {i = l.byte-index} (omega arith))

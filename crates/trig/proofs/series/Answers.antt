@@ -1,93 +1,98 @@
--- `trig::series` meets its contract. The invariant: p is the value over what is left of the row. Assumes nothing.
-use mathlib.Core.Path.{◌≡◌, sym, ap, ap₂, ◌∙◌}
-use mathlib.Core.List.{List, [], ◌∷◌}
-use Prim.Native.Nat.{ℕ, suc, ◌-◌, ◌≤◌, ◌<◌}
+-- `trig::series` meets its contract. The invariant: p is the value over the end of the row. Assumes nothing.
+use mathlib.Core.Path.{◌≡◌, sym, ap, ap₂, refl, ◌∙◌}
+use mathlib.Core.List.{List, [], ◌∷◌, ◌++◌}
+use Prim.Native.Nat.{ℕ, ◌≤◌}
 use native.Mathlib.Omega.{arith}
-use borrow.Author.Rules.{rules}
 use lib.IntN.{ℤ, pos, ◌-ℤ◌, ◌*ℤ◌}
-use lib.ListN.{drop, length, get_or}
-use lib.Seq.{drop-length, drop-cons}
 use lib.Signed.{quot_z}
 use mir.Syntax.{w64}
 use mir.Val.{to_z, of_z}
-use mir.Facts.{to_z-of_z}
+use mir.Facts.{to_z-of_z, to_z_pos}
+use Rattle.std.proofs.Common.{append_assoc, append-nil}
+use Rattle.std.specs.Iterator.Adapters.{rev_source}
+use Rattle.std.specs.Slice.Iter.{iter_rest}
 use Rattle.arith.proofs.Quote.{ring!, quote}
 use Rattle.arith.proofs.Fits.{Range, fits, plain, within, via, lit, nat_bits, r_bits, r_sub, r_mul, bounded}
-use Rattle.trig.specs.Trig.{ONE, series_of}
+use Rattle.trig.specs.Trig.{ONE, IsRow, series_of}
 use Rattle.trig.proofs.Sizes.{series-size, factor_at}
 use Rattle.trig.proofs.series.Goals as goal
-use Rattle.trig.proofs.series.Goals.{At-loop-k, In-loop-k, Start}
+use Rattle.trig.proofs.series.Goals.{In-Some}
 
-length-is : (c : Start) → length c.args.row ≡ 6
-length-is c = search rules
+-- ---- a turn of the loop: p is the value over the factors that are done, and becomes the value over one more
 
-p-is : (c : At-loop-k) → to_z w64 c.loop-k.p-bits ≡ series_of (drop c.loop-k.k c.before.args.row) c.before.args.z
-p-is c = rw (to_z-of_z c.before.ranges.z) at c.loop-k.invariant.1
-
-abbrev product-range : (c : At-loop-k) → 0 < c.loop-k.k → Range (to_z w64 (of_z w64 c.before.args.z) *ℤ to_z w64 c.loop-k.p-bits)
-product-range c h =
-    let s = c.before in
-    let e : suc (c.loop-k.k - 1) ≡ c.loop-k.k = omega arith in
-    r_mul (bounded w64 s.requires.square) (via (rw e (p-is c)) (within (series-size s.args.row (suc (c.loop-k.k - 1)) s.args.z s.requires.row s.requires.square)))
-
--- ---- a turn of the loop: p is the value past the place k of the row, and becomes the value from there on
-
-module _ (c : In-loop-k) where
-  abbrev start : Start
-  start = c.before.before
-
-  abbrev row : List ℕ
-  row = start.args.row
-
+module _ (c : In-Some) where
   abbrev z : ℤ
-  z = start.args.z
+  z = c.args.z
 
-  abbrev k : ℕ
-  k = c.before.loop-k.k - 1
+  abbrev left : List ℕ
+  left = iter_rest (rev_source c.next.new.self)
 
-  inside : k < length row
-  inside = omega (arith, length-is start)
+  abbrev f : ℕ
+  f = c.in-Some.factor.now
 
-  factor : (2 ≤ get_or row k 0) × (get_or row k 0 ≤ 156)
-  factor = factor_at row k start.requires.row inside
+  abbrev done : List ℕ
+  done = c.loop-factor.invariant.done
 
-  abbrev factor-range : Range (to_z w64 (get_or row k 0))
+  row-is : c.args.row ≡ left ++ f ∷ done
+  row-is = rw (c.in-Some.ensures.steps, append_assoc) at c.loop-factor.invariant.row-is
+
+  is_row : IsRow (left ++ f ∷ done)
+  is_row = rw row-is at c.requires.row
+
+  p-is : to_z w64 c.loop-factor.p-bits ≡ series_of done z
+  p-is = rw (to_z-of_z c.ranges.z) at c.loop-factor.invariant.value
+
+  factor : (2 ≤ f) × (f ≤ 156)
+  factor = factor_at left f done is_row
+
+  abbrev factor-range : Range (to_z w64 f)
   factor-range = nat_bits w64 factor.1
 
-  abbrev value_range : (j : ℕ) → Range (series_of (drop j row) z)
-  value_range j = within (series-size row j z start.requires.row start.requires.square)
+  abbrev value_range : Range (series_of (f ∷ done) z)
+  value_range = within (series-size left (f ∷ done) z is_row c.requires.square)
+
+  abbrev product-range : Range (to_z w64 (of_z w64 z) *ℤ to_z w64 c.loop-factor.p-bits)
+  product-range = r_mul (bounded w64 c.requires.square) (via p-is (within (series-size (left ++ f ∷ []) done z (rw append_assoc is_row) c.requires.square)))
 
   -- the quotient as the code has it
   abbrev quotient : ℤ
-  quotient = quot_z (to_z w64 (of_z w64 (to_z w64 (of_z w64 z) *ℤ to_z w64 c.before.loop-k.p-bits))) (to_z w64 (of_z w64 (ONE *ℤ to_z w64 (get_or row k 0))))
+  quotient = quot_z (to_z w64 (of_z w64 (to_z w64 (of_z w64 z) *ℤ to_z w64 c.loop-factor.p-bits))) (to_z w64 (of_z w64 (ONE *ℤ to_z w64 f)))
 
-  quotient_is : quotient ≡ ONE -ℤ series_of (drop k row) z
+  quotient_is : quotient ≡ ONE -ℤ series_of (f ∷ done) z
   unfolding series_of
   quotient_is =
-      let q = quot_z (z *ℤ series_of (drop (suc k) row) z) (ONE *ℤ pos (get_or row k 0)) in
-      ap₂ quot_z (plain (r_bits w64 (product-range c.before c.loop-k-test.true)) tt) (plain (r_bits w64 (r_mul (lit ONE) factor-range)) tt)
-      ∙ rw (drop-cons row k 0 inside) (ring! (q ∷ []) (search quote depth 20) tt)
+      let q = quot_z (z *ℤ series_of done z) (ONE *ℤ pos f) in
+      ap₂ quot_z (plain (r_bits w64 product-range) tt) (plain (r_bits w64 (r_mul (lit ONE) factor-range)) tt) ∙ ring! (q ∷ []) (search quote depth 20) tt
 
   abbrev quotient-range : Range quotient
-  quotient-range = via quotient_is (r_sub (lit ONE) (value_range k))
+  quotient-range = via quotient_is (r_sub (lit ONE) value_range)
 
   abbrev next-range : Range (ONE -ℤ to_z w64 (of_z w64 quotient))
   next-range = r_sub (lit ONE) (r_bits w64 quotient-range)
 
-  next-is : to_z w64 (of_z w64 (ONE -ℤ to_z w64 (of_z w64 quotient))) ≡ series_of (drop k row) z
-  next-is = plain (r_bits w64 next-range) tt ∙ ring! (series_of (drop k row) z ∷ []) (search quote depth 20) tt
+  next-is : to_z w64 (of_z w64 (ONE -ℤ to_z w64 (of_z w64 quotient))) ≡ series_of (f ∷ done) z
+  next-is = plain (r_bits w64 next-range) tt ∙ ring! (series_of (f ∷ done) z ∷ []) (search quote depth 20) tt
 
--- ---- the needs
+-- ---- the goals
 
-pub loop-k-init : goal.loop-k-init
+pub loop-factor-init : goal.loop-factor-init
 unfolding series_of
-loop-k-init c = (omega arith, rw (rw (length-is c) at (drop-length c.args.row)))
+loop-factor-init c = record { done = []; row-is = cc (append-nil c.args.row); value = refl }
 
 pub overflow_mul-p : goal.overflow_mul-p
-overflow_mul-p c = fits (product-range c.before c.loop-k-test.true) tt
+overflow_mul-p c = fits (product-range c) tt
+
+pub nonzero_div-p : goal.nonzero_div-p
+nonzero_div-p c =
+    let b = (goal.at.nonzero_div-p c).In-Some in
+    let k = factor b in
+    let e : to_z w64 (f b) ≡ pos (f b) = to_z_pos w64 (omega arith) in
+    (rw e (omega arith), fits (quotient-range b) tt)
 
 pub overflow_sub-p : goal.overflow_sub-p
-overflow_sub-p c = fits (next-range c) tt
+overflow_sub-p c = fits (next-range (goal.at.overflow_sub-p c).In-Some) tt
 
-pub loop-k-preserved : goal.loop-k-preserved
-loop-k-preserved c = (omega arith, next-is c ∙ ap (series_of _) (sym (to_z-of_z c.before.before.ranges.z)))
+pub loop-factor-preserved : goal.loop-factor-preserved
+loop-factor-preserved c =
+    let b = (goal.at.loop-factor-preserved c).In-Some in
+    record { done = _; row-is = row-is b; value = next-is b ∙ ap (series_of _) (sym (to_z-of_z c.ranges.z)) }

@@ -1,10 +1,14 @@
--- p is the value over what is left of the row.
-use Rattle.std.proofs.Common.{◌≡◌, ◌≤◌, drop}
+-- p is the value over the factors that are done, the last of the row.
+use Rattle.std.proofs.Common.{◌≡◌, ℕ, ℤ, List, ◌++◌}
+use Rattle.std.specs.Iterator.Adapters.{rev_source}
+use Rattle.std.specs.Slice.Iter.{iter_rest}
 use Rattle.trig.specs.Trig.{series_of}
 use Rattle.trig.proofs.series.Given as goal
 
-abbrev pub invariant-loop-k : goal.invariant-loop-k
-invariant-loop-k l = (l.k ≤ 6) × (l.p ≡ series_of (drop l.k l.row) l.z)
+pub record ValueSoFar (row left : List ℕ) (z p : ℤ) : Type 0 where
+  pub done : List ℕ
+  pub row-is : row ≡ left ++ done
+  pub value : p ≡ series_of done z
 
-abbrev pub decreases-loop-k : goal.decreases-loop-k
-decreases-loop-k l = l.k
+abbrev pub invariant-loop-factor : goal.invariant-loop-factor
+invariant-loop-factor l = ValueSoFar l.fn.row (iter_rest (rev_source l.factor-iterator)) l.z l.p

@@ -1,17 +1,18 @@
 -- `atlas_file::reading::read_through` meets its contract. Assumes nothing.
-use mathlib.Core.Path.{refl, ap, sym}
+use mathlib.Core.Path.{refl, sym}
 use mathlib.Core.Bool.{true≢false}
 use mathlib.Core.List.{[]}
 use Prim.Native.Nat.{suc}
 use native.Mathlib.Omega.{arith}
 use lib.ListN.{length}
-use Rattle.atlas_file.specs.Reading.{goes_on, start_of, read_of}
-use Rattle.atlas_file.proofs.ReadsOn.{less, reads_on, ends, refuses}
+use Rattle.std.proofs.lemmas.Result.{err_from_is_err_and}
+use Rattle.atlas_file.specs.Reading.{start_of, read_of}
+use Rattle.atlas_file.proofs.ReadsOn.{less, reads_on, ends, refuses, unless_end}
 use Rattle.atlas_file.proofs.reading.read_through.Goals as goal
 
-pub loop-next-init : goal.loop-next-init
+pub loop-advance-init : goal.loop-advance-init
 unfolding read_of start_of
-loop-next-init c =
+loop-advance-init c =
     rw c.start-state.ensures (record {
       steps = suc (length c.args.bytes.now);
       places = [];
@@ -20,20 +21,16 @@ loop-next-init c =
       passed = λ e. absurd (true≢false (sym e));
     })
 
-pub loop-next-smaller-in-Sheet : goal.loop-next-smaller-in-Sheet
-loop-next-smaller-in-Sheet c = less _ _ _ c.step_unchecked-answer.ensures (ap goes_on c.in-Sheet.is)
+pub loop-advance-smaller : goal.loop-advance-smaller
+loop-advance-smaller c = less _ _ _ c.in_ok-advance.ensures (unless_end _ c.in_default.not-End)
 
-pub loop-next-preserved-in-Sheet : goal.loop-next-preserved-in-Sheet
-loop-next-preserved-in-Sheet c = reads_on _ _ _ c.step_unchecked-answer.ensures _ c.loop-next.invariant _ c.in-Sheet.is refl
-
-pub loop-next-smaller : goal.loop-next-smaller
-loop-next-smaller c = less _ _ _ c.step_unchecked-answer.ensures (ap goes_on c.in-Place.is)
-
-pub loop-next-preserved : goal.loop-next-preserved
-loop-next-preserved c = reads_on _ _ _ c.step_unchecked-answer.ensures _ c.loop-next.invariant _ c.in-Place.is refl
+pub loop-advance-preserved : goal.loop-advance-preserved
+loop-advance-preserved c = reads_on _ _ _ c.loop-advance.invariant _ c.in_ok-advance.ensures (unless_end _ c.in_default.not-End)
 
 pub returns-in-End : goal.returns-in-End
-returns-in-End c = ends _ _ _ c.step_unchecked-answer.ensures _ c.loop-next.invariant _ c.in-End.is
+returns-in-End c = ends _ _ _ c.loop-advance.invariant _ c.in_ok-advance.ensures _ c.in-End.is
 
-pub returns-in-Refused : goal.returns-in-Refused
-returns-in-Refused c = refuses _ _ _ c.step_unchecked-answer.ensures _ c.loop-next.invariant _ _ c.in-Refused.is
+pub returns-in_err-advance : goal.returns-in_err-advance
+returns-in_err-advance c =
+    let p = err_from_is_err_and c.from_residual.result c.from_residual.ensures.1 in
+    rw (p.1, p.2) (refuses _ _ _ c.loop-advance.invariant _ c.in_err-advance.ensures)

@@ -5,8 +5,8 @@ use Rattle.atlas_file.specs.Reading.{read_reply}
 use Rattle.atlas_file.proofs.ReadsOn.{ReadsOn}
 use Rattle.atlas_file.proofs.reading.read_through.Given as goal
 
-abbrev pub invariant-loop-next : goal.invariant-loop-next
-invariant-loop-next l = ReadsOn l.bytes (read_reply l.bytes l.room) l.state
+abbrev pub invariant-loop-advance : goal.invariant-loop-advance
+invariant-loop-advance l = ReadsOn l.bytes (read_reply l.bytes l.room) l.state
 
-abbrev pub decreases-loop-next : goal.decreases-loop-next
-decreases-loop-next l = length l.bytes - l.state.«at»
+abbrev pub decreases-loop-advance : goal.decreases-loop-advance
+decreases-loop-advance l = length l.bytes - l.state.«at»

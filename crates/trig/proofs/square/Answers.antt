@@ -1,8 +1,0 @@
--- `trig::square` meets its contract. Assumes nothing.
-use Rattle.arith.proofs.Fits.{ranges, plain}
-use Rattle.trig.specs.Trig.{square_of}
-use Rattle.trig.proofs.square.Goals as goal
-
-pub returns : goal.returns
-unfolding square_of
-returns c = plain (search ranges depth 9) tt
