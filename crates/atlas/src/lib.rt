@@ -47,8 +47,19 @@ fn store_places(bytes: &[u8], table: &mut [Place], first: usize, count: usize)
         count,
     };
     for k in 0..count {
-        table[k] = places.place_unchecked(k);
+        table::set_place_unchecked(table, k, places.place_unchecked(k));
     }
+}
+
+// The place at a position, counted from 0, of an accepted file whose first place's record starts at `first`; not offered to callers.
+pub fn place_of_unchecked(bytes: &[u8], first: usize, position: usize) -> Place
+    requires accepted_file { AcceptedFile bytes.now most_places first }
+    requires position_bound { position < (read_reply bytes.now most_places).count }
+    ensures { result ≡ get_or (places_read bytes.now most_places) position blank_place }
+{
+    let at = first + PLACE_RECORD * position;
+    let end = at + PLACE_RECORD;
+    records::decode_place_unchecked(&bytes[at..end])
 }
 
 // Writes a sheet and a table of places into a buffer, and answers the file's length: 4, 5, 10 if there are more than 1,000 places, each place
@@ -81,8 +92,9 @@ fn check_places(checked: CheckedSheet, table: &[Place]) -> Result<(), Refusal>
     ensures { reply_of result ≡ in_order 0 (places_rules checked.sheet 0 0 table.now) (accepted []) }
 {
     let mut last_id = 0;
-    for (k, place) in table.iter().enumerate() {
-        place::check_place_on(checked, k, last_id, *place)?;
+    for k in 0..table.len() {
+        let place = table::place_at_unchecked(table, k);
+        place::check_place_on(checked, k, last_id, place)?;
         last_id = place.id;
     }
     Ok(())
@@ -116,9 +128,10 @@ fn write_places(table: &[Place], buffer: &mut [u8], first: usize) -> usize
     ensures { (result ≡ first + 37 * length table.now) × (buffer.new ≡ take first buffer.old ++ place_records table.now ++ drop result buffer.old) }
 {
     let mut at = first;
-    for place in table {
+    for k in 0..table.len() {
         let end = at + PLACE_RECORD;
-        records::write_place_unchecked(&mut buffer[at..end], *place);
+        let place = table::place_at_unchecked(table, k);
+        records::write_place_unchecked(&mut buffer[at..end], place);
         at = end;
     }
     at

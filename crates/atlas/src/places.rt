@@ -7,7 +7,6 @@ ghost use Rattle.atlas.specs.Tables.{AcceptedFile};
 
 use atlas_file::{FileRefusal, MOST_PLACES};
 use place::Place;
-use records::PLACE_RECORD;
 
 // The places of an accepted file: its bytes, where its first place's record starts, and how many there are.
 #[derive(Clone, Copy)]
@@ -38,8 +37,6 @@ impl<'a> Places<'a> {
         requires { position < self.count }
         ensures { result ≡ get_or (places_read self.entry.bytes.now most_places) position blank_place }
     {
-        let at = self.first + PLACE_RECORD * position;
-        let end = at + PLACE_RECORD;
-        records::decode_place_unchecked(&self.bytes[at..end])
+        crate::place_of_unchecked(self.bytes, self.first, position)
     }
 }

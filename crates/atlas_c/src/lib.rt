@@ -313,7 +313,7 @@ fn sheet_for_each(bytes: &[u8], numbers: usize, room: usize) -> Result<CheckedSh
 fn forward_of(bytes: &[u8], latitude: i64, longitude: i64) -> Result<MapPoint, Refusal>
     ensures { map_reply_of result ≡ forward_reply bytes.now latitude longitude }
 {
-    conic::forward_on(sheet_in(bytes)?, latitude, longitude)
+    conic::forward_on(&sheet_in(bytes)?, latitude, longitude)
 }
 
 // Inverse on the sheet whose record the bytes are.
@@ -341,7 +341,7 @@ impl Projection for ForwardProjection {
     ghost reply = { λ p. forward.forward_reply p.checked.sheet };
 
     fn answer(&self, latitude: i64, longitude: i64) -> [i64; 3] {
-        match conic::forward_on(self.checked, latitude, longitude) {
+        match conic::forward_on(&self.checked, latitude, longitude) {
             Ok(point) => [0, point.x, point.y],
             Err(r) => [number(r) as i64, 0, 0],
         }

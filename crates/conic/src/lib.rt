@@ -34,12 +34,16 @@ pub struct MapPoint {
 pub fn forward(sheet: Sheet, latitude: i64, longitude: i64) -> Result<MapPoint, Refusal>
     ensures { map_reply_of result ≡ forward_reply sheet latitude longitude }
 {
-    forward_on(CheckedSheet::new(sheet)?, latitude, longitude)
+    forward_on(&CheckedSheet::new(sheet)?, latitude, longitude)
 }
 
 // The same on a checked sheet.
-pub fn forward_on(checked: CheckedSheet, latitude: i64, longitude: i64) -> Result<MapPoint, Refusal>
-    ensures { map_reply_of result ≡ forward_reply checked.sheet latitude longitude }
+pub fn forward_on(
+    checked: &CheckedSheet,
+    latitude: i64,
+    longitude: i64,
+) -> Result<MapPoint, Refusal>
+    ensures { map_reply_of result ≡ forward_reply checked.now.sheet latitude longitude }
 {
     if !(trig::size_up_to(latitude, 90000000) & trig::size_up_to(longitude, 180000000)) {
         return Err(Refusal::OutOfRange);
@@ -47,7 +51,7 @@ pub fn forward_on(checked: CheckedSheet, latitude: i64, longitude: i64) -> Resul
     if !sheet::on_sheet(checked.sheet, latitude, longitude) {
         return Err(Refusal::OffSheet);
     }
-    Ok(point_of(checked, latitude, longitude))
+    Ok(point_of(*checked, latitude, longitude))
 }
 
 // The map point of a position on the sheet.
@@ -56,7 +60,6 @@ fn point_of(checked: CheckedSheet, latitude: i64, longitude: i64) -> MapPoint
     ensures x_value { result.x ≡ x_of checked.sheet latitude longitude }
     ensures y_value { result.y ≡ y_of checked.sheet latitude longitude }
 {
-    // not by a copy of the sheet, which would be read in pieces that were not written as one
     let d = sheet::offset_unchecked(checked.sheet, longitude);
     let t = cone::cone_angle_unchecked(checked.sheet.cone_constant, d);
     let g = checked.sheet.radius_constant as i64;

@@ -47,6 +47,6 @@ fn nearest_among(places: &[Place], x: i64, y: i64, reach: i64) -> Result<Found, 
     let position = nearest::nearest(places, x, y, reach)?;
     Ok(Found {
         position,
-        place: places[position],
+        place: table::place_at_unchecked(places, position),
     })
 }

@@ -133,8 +133,9 @@ impl Tap {
         ensures { result ≡ best_of None (within_reach_from 0 table.now self.x self.y self.squared_reach) }
     {
         let mut best = None;
-        for (position, place) in table.iter().enumerate() {
-            let candidate = self.candidate(*place, position);
+        for position in 0..table.len() {
+            let place = table::place_at_unchecked(table, position);
+            let candidate = self.candidate(place, position);
             if self.is_better(best, candidate) {
                 best = Some(candidate);
             }

@@ -3,13 +3,13 @@
 
 #![tactic(auto)]
 
-ghost use Rattle.std.specs.Prelude.{◌≡◌, []};
+ghost use Rattle.std.specs.Prelude.{◌≡◌, [], ◌∷◌};
 ghost use Rattle.refusal.specs.Numbers.{accepted};
 ghost use Rattle.refusal.specs.Rules.{in_order};
 ghost use Rattle.sheet.specs.Sheets.{reply_of};
 ghost use Rattle.conic.specs.Conic.{map_reply_of};
 ghost use Rattle.place.specs.Names.{is_printable, is_name};
-ghost use Rattle.place.specs.Places.{blank_place, place_rules_at, place_reply};
+ghost use Rattle.place.specs.Places.{blank_place, is_at, place_rules_at, place_reply};
 
 use conic::MapPoint;
 use refusal::Refusal;
@@ -29,7 +29,7 @@ pub struct Place {
     pub x: i32,
     pub y: i32,
     // A good name is 1 to 16 bytes of value 32 to 126, then zeros: see is_name.
-    pub name: [u8; 16],
+    pub name: [u8; NAME_LENGTH],
 }
 
 // Zeros: what an answer holds where there is no place.
@@ -42,7 +42,7 @@ pub fn blank() -> Place
         longitude: 0,
         x: 0,
         y: 0,
-        name: [0u8; 16],
+        name: [0u8; NAME_LENGTH],
     }
 }
 
@@ -64,7 +64,7 @@ pub fn check_place_on(
 ) -> Result<(), Refusal>
     ensures { reply_of result ≡ place_reply checked.sheet count last_id place }
 {
-    let answer = conic::forward_on(checked, place.latitude as i64, place.longitude as i64);
+    let answer = conic::forward_on(&checked, place.latitude as i64, place.longitude as i64);
     verdict_at(answer, count, last_id, place)
 }
 
@@ -83,17 +83,20 @@ fn verdict_at(
     let Ok(point) = answer else {
         return Err(Refusal::PlaceOffSheet);
     };
-    let own = MapPoint {
-        x: i64::from(place.x),
-        y: i64::from(place.y),
-    };
-    if point != own {
+    if !is_at(point, place) {
         return Err(Refusal::PlacePosition);
     }
     if !is_name(place.name) {
         return Err(Refusal::Name);
     }
     Ok(())
+}
+
+// Whether a map point is where a place says that it lies.
+fn is_at(point: MapPoint, place: Place) -> bool
+    ensures { result ≡ is_at (accepted (point.x ∷ point.y ∷ [])) place.x place.y }
+{
+    (point.x == i64::from(place.x)) & (point.y == i64::from(place.y))
 }
 
 // Whether a byte is of value 32 to 126, a printable character of ASCII.
@@ -104,7 +107,7 @@ fn is_printable(b: u8) -> bool
 }
 
 // Whether a name is 1 to 16 bytes of value 32 to 126, then zeros.
-pub fn is_name(name: [u8; 16]) -> bool
+pub fn is_name(name: [u8; NAME_LENGTH]) -> bool
     ensures { result ≡ is_name name }
 {
     // of the bytes so far, from the last: whether they are printable, then zeros; whether they are zeros

@@ -1,4 +1,5 @@
-// A table of places that the caller lends: a slice of structs. Only these two functions look into it.
+// A table of places that the caller lends: a slice of structs. Only these two functions look into it, so loops over a table go by its positions
+// and no iterator.
 //
 // A function whose name ends in _unchecked is not offered to callers, as in trig.
 

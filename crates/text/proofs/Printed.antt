@@ -30,6 +30,10 @@ printed_32 {n} f = decimal_printed n (let h = f.fits in omega arith)
 pub printed_64 : {n : ℕ} → Fits w64 n → std.decimal n ≡ decimal n
 printed_64 {n} f = decimal_printed n (let h = f.fits in omega arith)
 
+-- the same, where the number is worked out
+pub printed_as : {text : List ℕ} {m n : ℕ} → text ≡ std.decimal m → m ≡ n → Fits w64 n → text ≡ decimal n
+printed_as {m} t e f = rw t (rw e (printed_64 f))
+
 pub number_printed : (r : Refusal) → std.decimal (number_of r) ≡ decimal (number_of r)
 number_printed r = decimal_printed (number_of r) (omega (arith, number-most r))
 

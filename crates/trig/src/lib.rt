@@ -6,7 +6,7 @@
 
 #![tactic(auto)]
 
-ghost use Rattle.std.specs.Prelude.{◌≡◌, ◌+◌, ◌*◌, ◌≤◌, pos, nat_abs, cond, Ok, Err};
+ghost use Rattle.std.specs.Prelude.{◌≡◌, true, ◌+◌, ◌*◌, ◌≤◌, pos, nat_abs, cond, Ok, Err};
 ghost use Rattle.arith.specs.Bounds.{Size, Within, size_up_to};
 ghost use Rattle.refusal.specs.declared.Refusal.TheVariants.{OutOfRange};
 ghost use Rattle.trig.specs.Trig.{angle_of, angle_reply, cosine_row, IsRow, IsSquare, square_of, series_of, sine_of, sine_reply, cosine_of, cosine_reply, root_of, root_reply, angle_limit, sine_limit, root_limit, reply_of};
@@ -170,19 +170,32 @@ pub fn root(q: i64) -> Result<i64, Refusal>
     Ok(root_unchecked(q))
 }
 
-// The same of a number in range; not offered to callers. A guess s is the root if -s < q - s² ≤ s; otherwise the root from below gives it.
+// The same of a number in range; not offered to callers. A guess that is one off has the root beside it; otherwise the root from below gives it.
 pub fn root_unchecked(q: i64) -> i64
     requires { Within (pos 1) (pos root_limit) q }
     ensures { result ≡ pos (root_of (nat_abs q)) }
 {
     let near = guess::root(q as u64);
     if (1 <= near) & (near <= ONE) {
-        let off = q - near * near;
-        if (-near < off) & (off <= near) {
+        if is_root(q, near) {
             return near;
+        }
+        let beside = if near * near < q { near + 1 } else { near - 1 };
+        if is_root(q, beside) {
+            return beside;
         }
     }
     root_from_below(q)
+}
+
+// Whether s is the root: -s < q - s² ≤ s.
+fn is_root(q: i64, s: i64) -> bool
+    requires q { Within (pos 1) (pos root_limit) q }
+    requires s { Within (pos 0) (pos 1073741825) s }
+    ensures { result ≡ true → s ≡ pos (root_of (nat_abs q)) }
+{
+    let off = q - s * s;
+    (-s < off) & (off <= s)
 }
 
 // The same by the root from below, rounded.

@@ -15,20 +15,16 @@ invariant_of-places c =
     let count = ap (λ (X : Reading). X.reply.count) (other-room a.0) in
     record { accepted = with_most a.0; counted = omega (arith, a.1, count) }
 
-pub bounds-table-k : goal.bounds-table-k
-bounds-table-k c = omega (arith, c.requires.1, (accepted-count c.requires.0).1, c.loop-k.auto.table)
-
-pub offset_bounds-table-k : goal.offset_bounds-table-k
-offset_bounds-table-k c =
-    let a = c.requires in
-    omega (arith, a.1, ap (λ (X : Reading). X.reply.count) (other-room a.0), (accepted-count (with_most a.0)).1)
+pub set_place_unchecked-requires : goal.set_place_unchecked-requires
+set_place_unchecked-requires c = omega (arith, c.requires.1, (accepted-count c.requires.0).1, c.loop-k.auto.table)
 
 pub loop-k-preserved : goal.loop-k-preserved
 loop-k-preserved c =
     let l = c.loop-k in
     let n = accepted-count c.requires.0 in
     let place = c.place_unchecked.ensures ∙ ap (λ (X : Reading). get_or X.places l.k blank_place) (other-room c.requires.0) in
-    rw (place, l.invariant, add-one) (one_more blank_place (places_read c.args.bytes.now (length c.args.table.now)) c.args.table.now l.k (omega (arith, c.requires.1, n.0)) (omega (arith, c.requires.1, n.1)))
+    let stored = rw (place, l.invariant) at c.set_place_unchecked.ensures in
+    rw add-one (stored ∙ one_more blank_place (places_read c.args.bytes.now (length c.args.table.now)) c.args.table.now l.k (omega (arith, c.requires.1, n.0)) (omega (arith, c.requires.1, n.1)))
 
 pub returns : goal.returns
 returns c =

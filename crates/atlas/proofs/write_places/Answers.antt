@@ -3,25 +3,23 @@ use mathlib.Core.Path.{◌≡◌, refl, ap, ◌∙◌}
 use Prim.Native.Nat.{◌+◌, ◌-◌, ◌<◌}
 use native.Mathlib.Omega.{arith}
 use lib.ListN.{length, take, drop, length-append, length-take, length-drop}
-use Rattle.std.proofs.lemmas.List.{get_or_default}
-use Rattle.place.specs.Places.{blank_place}
 use Rattle.records.specs.Records.{place_record}
 use Rattle.atlas_file.specs.Writing.{place_records}
 use Rattle.atlas.proofs.BufferParts.{records_more, none_written, one_written}
 use Rattle.atlas.proofs.write_places.Goals as goal
 
-pub loop-place-init : goal.loop-place-init
+pub loop-k-init : goal.loop-k-init
 unfolding place_records
-loop-place-init c = record { here = omega arith; written = refl; parts = none_written c.args.table.now c.args.buffer.now c.args.first (omega arith) }
+loop-k-init c = record { here = omega arith; written = refl; parts = none_written c.args.table.now c.args.buffer.now c.args.first (omega arith) }
 
-pub loop-place-preserved : goal.loop-place-preserved
-loop-place-preserved c =
-    let l = c.loop-place in
-    let k = l.place-index in
+pub loop-k-preserved : goal.loop-k-preserved
+loop-k-preserved c =
+    let l = c.loop-k in
+    let k = l.k in
     let table = c.args.table.now in
     let w = c.write_place_unchecked in
     let k<n : k < length table = omega arith in
-    let record_is = w.ensures ∙ ap place_record (get_or_default table k _ blank_place k<n) in
+    let record_is = w.ensures ∙ ap place_record c.place_at_unchecked-place.ensures in
     let as_lent : length w.new.part ≡ length (take (l.at + 37 - l.at) (drop l.at l.buffer)) = w.auto.part in
     let long : length w.new.part ≡ 37 = as_lent ∙ simp (length-take, length-drop) (omega (arith, l.auto.buffer)) in
     record {

@@ -10,7 +10,7 @@ pub loop-u-preserved : goal.loop-u-preserved
 unfolding u32_bytes
 loop-u-preserved c =
     let l = c.loop-u in
-    let written = c.put_bytes_unchecked.ensures ∙ ap (put l.out l.at) c.to_le_bytes.ensures in
+    let written = rw c.to_le_bytes.ensures at c.put_bytes_unchecked.ensures in
     (omega arith, rw written (number-turn l.out c.args.numbers.now l.at l.u-index (omega arith) (omega arith) ∙ l.invariant.1))
 
 pub returns : goal.returns

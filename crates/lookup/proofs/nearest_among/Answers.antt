@@ -1,11 +1,8 @@
 -- `lookup::nearest_among` meets its contract. Assumes nothing.
 use mathlib.Core.Path.{sym}
-use native.Mathlib.Omega.{arith}
 use mir.Facts.{to_z-of_z}
-use Rattle.std.proofs.lemmas.List.{get_or_default}
 use Rattle.std.proofs.lemmas.Result.{err_from_is_err_and}
 use Rattle.refusal.proofs.Distinct.{not_zero}
-use Rattle.place.specs.Places.{blank_place}
 use Rattle.nearest.proofs.NearestLaws.{nearest_is_least}
 use Rattle.lookup.specs.Lookups.{nearest_among}
 use Rattle.lookup.proofs.nearest_among.Goals as goal
@@ -19,19 +16,14 @@ returns-in_err-position c =
     rw (p.1, p.2, ← told, not_zero c.in_err-position.field-0.0)
 
 -- where a place is found: the reply has its position
-pub bounds-places-position : goal.bounds-places-position
-bounds-places-position c =
+pub place_at_unchecked-requires : goal.place_at_unchecked-requires
+place_at_unchecked-requires c =
     let f = c.ranges in
     (nearest_is_least _ _ _ _ _ (sym (rw (to_z-of_z f.x, to_z-of_z f.y, to_z-of_z f.reach) at c.in_ok-position.ensures))).in_table
-
-pub offset_bounds-places-position : goal.offset_bounds-places-position
-offset_bounds-places-position c =
-    let f = c.ranges in
-    omega (arith, (nearest_is_least _ _ _ _ _ (sym (rw (to_z-of_z f.x, to_z-of_z f.y, to_z-of_z f.reach) at c.in_ok-position.ensures))).in_table)
 
 pub returns : goal.returns
 unfolding nearest_among
 returns c =
     let f = c.ranges in
     let told = rw (to_z-of_z f.x, to_z-of_z f.y, to_z-of_z f.reach) at c.in_ok-position.ensures in
-    rw (get_or_default c.args.places.now c.in_ok-position.position _ blank_place (nearest_is_least _ _ _ _ _ (sym told)).in_table, ← told)
+    rw (c.place_at_unchecked.ensures, ← told)
